@@ -1,0 +1,226 @@
+// The top call: words, load, reading, run, report.
+ghost use Rattle.std.specs.Prelude.{◌≡◌, ◌≢◌, ◌⊎◌, ◌<◌, ◌≤◌, ◌++◌, ◌∷◌, [], List, ℕ, Some, map, length, IfOk, OnOk, OnErr, IsErrOf, string_bytes};
+ghost use Rattle.ca_model.specs.Codes.{Typed};
+ghost use Rattle.ca_model.specs.FirstForm.{IsFirstForm};
+ghost use Rattle.ca_model.specs.Commands.{source_limit, IsRunOf, Loaded, Exceeded, Misworded, Unread, TooLong, NotBuilt, err_text, message, memory_text};
+ghost use Rattle.ca_io.specs.Ports.{put_port, load_port, Wrote, HasFailed, HasFailedLoad};
+ghost use Rattle.ca_cmd.specs.Serving.{MayGive, Answers, Finishes, Refuses, MissesFile, IsCut, IsStatus, NoneFailed, Closes, Reports, ReportsPart};
+
+use crate::reading::read;
+use crate::report::write_report;
+use crate::run::run;
+use crate::words::name_of;
+use ca_io::{Files, LoadNo, PutNo, Sink};
+use std::alloc::{AllocError, Global};
+
+/// The most bytes that a source may have.
+const SOURCE_LIMIT: usize = 1_048_576;
+
+// Why a source was not run, or its report not put whole.
+#[derive(Clone, Copy, Debug, PartialEq, Eq)]
+enum Refusal {
+    Unread,
+    TooLong,
+    NotBuilt,
+    Put,
+    NoMemory,
+}
+
+// Runs the source in a file and puts its report.
+fn serve<F: Files, O: Sink>(
+    alloc: Global,
+    name: &str,
+    files: &mut F,
+    out: &mut O,
+) -> Result<u8, Refusal>
+    ensures ran { IfOk result (λ status. Reports (load_port F.holds F.faults files.old files.new)
+        name.now status (put_port O.written O.faults out.old out.new)) }
+    ensures finished { IfOk result (λ status. status ≡ 0) }
+    ensures unread { IsErrOf result Refusal.Unread →
+        HasFailedLoad (load_port F.holds F.faults files.old files.new) }
+    ensures unread_nothing { IsErrOf result Refusal.Unread → out.new ≡ out.old }
+    ensures too_long { IsErrOf result Refusal.TooLong →
+        MayGive (load_port F.holds F.faults files.old files.new) name.now Exceeded }
+    ensures too_long_nothing { IsErrOf result Refusal.TooLong → out.new ≡ out.old }
+    ensures not_built { IsErrOf result Refusal.NotBuilt → (bytes : List ℕ) ×
+        MayGive (load_port F.holds F.faults files.old files.new) name.now (Loaded bytes) ×
+        ((p : Typed) → IsFirstForm bytes p → ⊥) }
+    ensures not_built_nothing { IsErrOf result Refusal.NotBuilt → out.new ≡ out.old }
+    ensures put { IsErrOf result Refusal.Put →
+        ReportsPart (load_port F.holds F.faults files.old files.new) name.now
+        (put_port O.written O.faults out.old out.new) }
+    ensures put_failed { IsErrOf result Refusal.Put →
+        HasFailed (put_port O.written O.faults out.old out.new) }
+    ensures no_memory { IsErrOf result Refusal.NoMemory → (out.new ≡ out.old) ⊎
+        ReportsPart (load_port F.holds F.faults files.old files.new) name.now
+        (put_port O.written O.faults out.old out.new) }
+    ensures asked { (result ≡ Err Refusal.NoMemory → ⊥) →
+        F.asked files.new ≡ F.asked files.old ++ name.now ∷ [] }
+    ensures asked_once { (F.asked files.new ≡ F.asked files.old)
+        ⊎ (F.asked files.new ≡ F.asked files.old ++ name.now ∷ []) }
+    ensures kept { F.holds files.new ≡ F.holds files.old }
+{
+    let bytes = match files.load(name, SOURCE_LIMIT) {
+        Ok(bytes) => bytes,
+        Err(LoadNo::Failed) => return Err(Refusal::Unread),
+        Err(LoadNo::TooLong) => return Err(Refusal::TooLong),
+        Err(LoadNo::NoMemory) => return Err(Refusal::NoMemory),
+    };
+    let Some(form) = read(&bytes) else {
+        return Err(Refusal::NotBuilt);
+    };
+    let Ok(ran) = run(alloc, &form) else {
+        return Err(Refusal::NoMemory);
+    };
+    match write_report(alloc, &ran, out) {
+        Ok(()) => Ok(ran.ending.status()),
+        Err(PutNo::Failed) => Err(Refusal::Put),
+        Err(PutNo::NoMemory) => Err(Refusal::NoMemory),
+    }
+}
+
+// Puts one text, and answers the status.
+fn close<E: Sink>(err: &mut E, status: u8, text: &[u8]) -> u8
+    ensures { Closes status text.now result (put_port E.written E.faults err.old err.new) }
+{
+    match err.put(text) {
+        Ok(()) => status,
+        Err(PutNo::Failed) => 7,
+        Err(PutNo::NoMemory) => 8,
+    }
+}
+
+/// Puts the text on want of memory, and answers its status: 8, or 7 where the put failed.
+pub fn out_of_memory<E: Sink>(err: &mut E) -> u8
+    ensures { Closes 8 memory_text result (put_port E.written E.faults err.old err.new) }
+{
+    close(err, 8, b"conair: out of memory\n")
+}
+
+// Puts the text of a refusal that names the file.
+fn tell<E: Sink>(alloc: Global, err: &mut E, status: u8, front: &str, name: &str, back: &str) -> u8
+    ensures { Closes status (message front.now name.now back.now) result
+        (put_port E.written E.faults err.old err.new)
+        ⊎ Closes 8 memory_text result (put_port E.written E.faults err.old err.new) }
+{
+    match format!(in alloc; "{front}{name}{back}\n") {
+        Ok(text) => close(err, status, text.as_str().as_bytes()),
+        Err(AllocError) => out_of_memory(err),
+    }
+}
+
+// Puts the text of a refusal, and answers its status.
+fn refuse<E: Sink>(alloc: Global, name: &str, refusal: Refusal, err: &mut E) -> u8
+    ensures unread { refusal ≡ Refusal.Unread →
+        Closes 6 (err_text (Unread name.now)) result (put_port E.written E.faults err.old err.new)
+        ⊎ Closes 8 memory_text result (put_port E.written E.faults err.old err.new) }
+    ensures too_long { refusal ≡ Refusal.TooLong →
+        Closes 3 (err_text (TooLong name.now)) result (put_port E.written E.faults err.old err.new)
+        ⊎ Closes 8 memory_text result (put_port E.written E.faults err.old err.new) }
+    ensures not_built { refusal ≡ Refusal.NotBuilt →
+        Closes 3 (err_text (NotBuilt name.now)) result (put_port E.written E.faults err.old err.new)
+        ⊎ Closes 8 memory_text result (put_port E.written E.faults err.old err.new) }
+    ensures put { refusal ≡ Refusal.Put → result ≡ 7 }
+    ensures put_nothing { refusal ≡ Refusal.Put → err.new ≡ err.old }
+    ensures no_memory { refusal ≡ Refusal.NoMemory →
+        Closes 8 memory_text result (put_port E.written E.faults err.old err.new) }
+{
+    match refusal {
+        Refusal::Unread => tell(alloc, err, 6, "conair: cannot read ", name, ""),
+        Refusal::TooLong => tell(
+            alloc,
+            err,
+            3,
+            "conair: ",
+            name,
+            ": longer than 1048576 bytes",
+        ),
+        Refusal::NotBuilt => tell(alloc, err, 3, "conair: ", name, ": not built yet"),
+        Refusal::Put => 7,
+        Refusal::NoMemory => out_of_memory(err),
+    }
+}
+
+/// Does what the words say, and answers the status that the program ends with. The words are `run FILE`: the source in FILE is run, and the report of its run is put to `out`, a line a put.
+///
+/// The status is 0 where the run finished; 2 where the words are others; 3 where the source is longer than 1,048,576 bytes or not of the form that is built; 6 where FILE could not be loaded; 7 where a put failed; 8 where an allocation was refused. After 2, 3, 6 and 8 a text goes to `err`.
+pub fn command_alone<F: Files, O: Sink, E: Sink>(
+    alloc: Global,
+    words: &[String],
+    files: &mut F,
+    out: &mut O,
+    err: &mut E,
+) -> u8
+    // what each status tells
+    ensures finished { result ≡ 0 → Finishes (map string_bytes words.now)
+        (load_port F.holds F.faults files.old files.new)
+        (put_port O.written O.faults out.old out.new)
+        (put_port E.written E.faults err.old err.new) }
+    ensures misworded { result ≡ 2 → Answers (map string_bytes words.now)
+        (load_port F.holds F.faults files.old files.new) Misworded
+        (put_port O.written O.faults out.old out.new)
+        (put_port E.written E.faults err.old err.new) }
+    ensures refused { result ≡ 3 → Refuses (map string_bytes words.now)
+        (load_port F.holds F.faults files.old files.new)
+        (put_port O.written O.faults out.old out.new)
+        (put_port E.written E.faults err.old err.new) }
+    ensures unread { result ≡ 6 → MissesFile (map string_bytes words.now)
+        (load_port F.holds F.faults files.old files.new)
+        (put_port O.written O.faults out.old out.new)
+        (put_port E.written E.faults err.old err.new) }
+    ensures put_failed { result ≡ 7 → HasFailed (put_port O.written O.faults out.old out.new)
+        ⊎ HasFailed (put_port E.written E.faults err.old err.new) }
+    ensures cut { (result ≡ 7) ⊎ (result ≡ 8) → IsCut (map string_bytes words.now)
+        (load_port F.holds F.faults files.old files.new)
+        (put_port O.written O.faults out.old out.new)
+        (put_port E.written E.faults err.old err.new) }
+    ensures no_other { IsStatus result }
+
+    // which status comes where no count of faults rises
+    ensures words_unknown { ((name : List ℕ) → IsRunOf (map string_bytes words.now) name → ⊥) →
+        NoneFailed (load_port F.holds F.faults files.old files.new)
+        (put_port O.written O.faults out.old out.new)
+        (put_port E.written E.faults err.old err.new) →
+        (result ≡ 2) ⊎ (result ≡ 8) }
+    ensures source_long { (name bytes : List ℕ) →
+        IsRunOf (map string_bytes words.now) name → F.holds files.old name ≡ Some bytes →
+        source_limit < length bytes →
+        NoneFailed (load_port F.holds F.faults files.old files.new)
+        (put_port O.written O.faults out.old out.new)
+        (put_port E.written E.faults err.old err.new) →
+        (result ≡ 3) ⊎ (result ≡ 8) }
+    ensures source_unbuilt { (name bytes : List ℕ) →
+        IsRunOf (map string_bytes words.now) name → F.holds files.old name ≡ Some bytes →
+        ((p : Typed) → IsFirstForm bytes p → ⊥) →
+        NoneFailed (load_port F.holds F.faults files.old files.new)
+        (put_port O.written O.faults out.old out.new)
+        (put_port E.written E.faults err.old err.new) →
+        (result ≡ 3) ⊎ (result ≡ 8) }
+    ensures source_runs { (name bytes : List ℕ) (p : Typed) →
+        IsRunOf (map string_bytes words.now) name → F.holds files.old name ≡ Some bytes →
+        length bytes ≤ source_limit → IsFirstForm bytes p →
+        NoneFailed (load_port F.holds F.faults files.old files.new)
+        (put_port O.written O.faults out.old out.new)
+        (put_port E.written E.faults err.old err.new) →
+        (result ≡ 0) ⊎ (result ≡ 8) }
+
+    // FILE alone is asked for, at most once
+    ensures asked_once { (F.asked files.new ≡ F.asked files.old) ⊎ ((name : List ℕ) ×
+        IsRunOf (map string_bytes words.now) name ×
+        (F.asked files.new ≡ F.asked files.old ++ name ∷ [])) }
+    ensures asked { (name : List ℕ) → IsRunOf (map string_bytes words.now) name →
+        result ≢ 7 → result ≢ 8 →
+        F.asked files.new ≡ F.asked files.old ++ name ∷ [] }
+    ensures kept { F.holds files.new ≡ F.holds files.old }
+{
+    let Some(name) = name_of(words) else {
+        return close(err, 2, b"conair: words not understood\n");
+    };
+    match serve(alloc, name, files, out) {
+        Ok(status) => status,
+        Err(refusal) => refuse(alloc, name, refusal, err),
+    }
+}
+
+#[cfg(test)]
+mod tests;

@@ -1,0 +1,10 @@
+//! The one call that does what the program does.
+#![tactic(auto)]
+
+mod command;
+mod reading;
+mod report;
+mod run;
+mod words;
+
+pub use command::{command_alone, out_of_memory};

@@ -1,0 +1,12 @@
+//! Texts, places in a text, the numbers of the things of a source, and the answer for want of memory.
+#![tactic(auto)]
+
+pub mod listed;
+mod no_memory;
+mod numbers;
+mod text;
+
+pub use listed::Listed;
+pub use no_memory::NoMemory;
+pub use numbers::{FunId, GlobalId, ItemId, MutexId, SiteId, StructId, VarId};
+pub use text::{Pos, Text};
