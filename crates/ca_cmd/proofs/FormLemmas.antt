@@ -330,7 +330,7 @@ returned_found text n h =
     let spelled : Words (opening ++ (num.0 ∷ closing)) text = tokens_found opening (num.0 ∷ closing) text front.0 front.1 (number.0.1, num.2, closed) in
     let is = subst (λ (k : ℕ). IsNumeral num.0 k) ch.1 num.1 in
     let us = placed start (spellings num.0) text spelled in
-    (place_of us.0 6, place_of us.0 9, (us.0, us.2, (num.0, n, is, us.1, refl)))
+    (place_of us.0 6, place_of us.0 9, (us.0, us.2, (num.0, n, is, us.1, refl {a = returning n (place_of us.0 6) (place_of us.0 9)})))
 
 returned_taken : (text : List ℕ) (p : Typed) → IsFirstForm text p → (n : ℕ) × (returned_by text ≡ Some n)
 unfolding returned_by

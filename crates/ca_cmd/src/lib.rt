@@ -8,3 +8,6 @@ mod run;
 mod words;
 
 pub use command::{command_alone, out_of_memory};
+
+#[cfg(test)]
+mod tests;

@@ -1,3 +1,4 @@
 pub mod Outside
 pub mod Ports
 pub mod Memory
+pub mod Host

@@ -17,8 +17,13 @@ pub struct HostFiles<'a, R> {
 }
 
 impl<'a, R: rt::Files> HostFiles<'a, R> {
+    ghost use Rattle.ca_io.specs.Host.{host_asked, host_load_faults};
+
     /// The files that this runtime reaches.
-    pub fn new(rt: &'a R, alloc: Global) -> Self {
+    pub fn new(rt: &'a R, alloc: Global) -> Self
+        ensures unasked { host_asked result ≡ [] }
+        ensures no_faults { host_load_faults result ≡ 0 }
+    {
         HostFiles {
             rt,
             alloc,
@@ -121,8 +126,13 @@ pub struct HostSink<W> {
 }
 
 impl<W: Write + Drop> HostSink<W> {
+    ghost use Rattle.ca_io.specs.Host.{host_put_faults, writer_of};
+
     /// Puts go to this writer.
-    pub fn new(writer: W) -> Self {
+    pub fn new(writer: W) -> Self
+        ensures no_faults { host_put_faults result ≡ 0 }
+        ensures writer { writer_of result ≡ writer }
+    {
         HostSink { writer, faults: 0 }
     }
 }
