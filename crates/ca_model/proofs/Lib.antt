@@ -19,3 +19,4 @@ pub mod ExamplePlan
 pub mod ExampleRunner
 pub mod Harmless
 pub mod SmallCases
+pub mod NoPlan

@@ -15,12 +15,14 @@ ghost use Rattle.ca_model.specs.Source.{source};
 ghost use Rattle.ca_model.specs.Hardened.{Hardened, hardened};
 ghost use Rattle.ca_model.specs.Machine.{State, Run, IsFixed, PartsMakeRuns, RunsComeApart};
 ghost use Rattle.ca_model.specs.Private.{Thread};
-ghost use Rattle.ca_model.specs.Plans.{IsPlanOf, IsSound};
-ghost use Rattle.ca_model.specs.Projection.{projection};
+ghost use Rattle.ca_model.specs.Plans.{Fits, IsPlanOf, IsSound};
+ghost use Rattle.ca_model.specs.SourceRuns.{no_plan};
+ghost use Rattle.ca_model.specs.Projection.{projection, HasNoMarks};
 ghost use Rattle.ca_model.specs.Opening.{opening};
 ghost use Rattle.ca_model.specs.Example.{program, plan, options, hardened_list, source_list, schedule};
 ghost use Rattle.ca_model.specs.Runner.{IsRunOf};
 ghost use Rattle.ca_model.specs.declared.values.Ending.{Ending};
+ghost use Rattle.ca_model.specs.declared.values.Event.{Event};
 ghost use Rattle.ca_model.specs.Codes.{Typed, code_of};
 ghost use Rattle.ca_model.specs.Matched.{MatchedRun};
 ghost use Rattle.ca_model.specs.Destroying.{AnswersAlike, IsHarmlessUnless};
@@ -88,6 +90,18 @@ pub fn sites_are_their_own(a: &Act)
 pub fn other_items_destroy_nothing(a: &Act)
     ensures items { IsHarmlessUnless a.now }
     ensures entries { AnswersAlike }
+{}
+
+/// A list without saves and retries is its own projection; so projecting twice is projecting once.
+pub fn projections_have_no_marks()
+    ensures unmarked { (es : List Event) → HasNoMarks es → projection es ≡ es }
+    ensures once { (es : List Event) → projection (projection es) ≡ projection es }
+{}
+
+/// The plan without a save fits every source, and is sound.
+pub fn the_empty_plan_is_sound()
+    ensures fits { (p : Typed) → Fits p no_plan }
+    ensures sound { (p : Typed) → IsSound p no_plan }
 {}
 
 /// A source with an assertion on a global: its plan is the plan of the source and is sound; a list with a save and a retry is a hardened run and what the runner gives by a schedule, and its projection is a run of the source.
