@@ -1,6 +1,15 @@
 pub mod Fronts
-pub mod FormLemmas
-pub mod FirstRun
+pub mod Loops
+pub mod Lexing
+pub mod Found
+pub mod Taken
+pub mod Forms
+pub mod SumAsks
+pub mod Sums
+pub mod SumSteps
+pub mod SumRuns
+pub mod SumActs
+pub mod SumEnds
 pub mod Lists
 pub mod Reporting
 pub mod Ends

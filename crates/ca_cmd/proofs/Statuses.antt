@@ -1,6 +1,7 @@
 -- What a status tells, and which status comes where the contents of the file are told.
 use Rattle.std.proofs.Common.{◌≡◌, ◌≤◌, ◌<◌, ℕ, List, [], length, Option, Some, None, refl, sym, ap, subst, inl, inr, arith, ◌∙◌}
 use Rattle.std.specs.Prelude.{◌⊎◌, IfSome}
+use Rattle.ca_model.specs.declared.values.FaultKind.TheVariants as fault
 use Rattle.ca_model.specs.declared.values.Ending.{Ending}
 use Rattle.ca_model.specs.declared.values.Ending.TheVariants as ending
 use Rattle.ca_model.specs.Codes.{Typed}
@@ -8,7 +9,8 @@ use Rattle.ca_model.specs.FirstForm.{IsFirstForm}
 use Rattle.ca_model.specs.Commands.{source_limit, IsRunOf, Cause, Misworded, Unread, TooLong, NotBuilt, Ran, ending_status, Stands}
 use Rattle.ca_io.specs.Outside.{IsTold}
 use Rattle.ca_io.specs.Ports.{PutPort, LoadPort, Wrote, HasFailed}
-use Rattle.ca_cmd.specs.Serving.{MayGive, Answers, Finishes, Reports, IsCut, NoneFailed}
+use Rattle.ca_cmd.specs.Serving.{MayGive, Answers, Finishes, Faults, Reports, IsCut, NoneFailed}
+use Rattle.ca_cmd.specs.Runs.{HasEnded}
 use Rattle.ca_cmd.proofs.Ends.{Ends, IsRefusal}
 
 -- the two names that the same words have are one
@@ -23,6 +25,11 @@ told_long : (told : Option (List ℕ)) (n : ℕ) (held : List ℕ) → IfSome to
 told_long None n held is same = absurd cc
 told_long (Some xs) n held is same = let one : xs ≡ held = cc in subst (λ (b : List ℕ). n < length b) one is
 
+-- the status of a run that has ended
+pub ended_status : (end : Ending) (n : ℕ) → HasEnded end → n ≡ ending_status end → (n ≡ 0) ⊎ (n ≡ 1)
+ended_status end n (inl finished) is = inl (is ∙ ap ending_status finished)
+ended_status end n (inr fault) is = inr (is ∙ ap ending_status fault)
+
 module _ (words : List (List ℕ)) (files : LoadPort) (out err : PutPort) where
   -- a run that is reported with status 0 has finished
   is_finished : (end : Ending) → ending_status end ≡ 0 → end ≡ ending.Finished
@@ -36,6 +43,17 @@ module _ (words : List (List ℕ)) (files : LoadPort) (out err : PutPort) where
   pub finishes : (name : List ℕ) (result : ℕ) → IsRunOf words name → Reports files name result out → result ≡ 0 → Wrote err [] → Finishes words files out err
   finishes name result said r zero nothing =
       let end = is_finished r.3 (sym r.5 ∙ zero) in
+      let answers : Answers words files (Ran name r.0 r.1 r.2 r.3) out err = record { stands = (said, r.4); on_out = r.6; on_err = nothing } in
+      (name, r.0, r.1, r.2, subst (λ (e : Ending). Answers words files (Ran name r.0 r.1 r.2 e) out err) end answers)
+
+  -- a run that is reported with status 1 has a sum without a value
+  is_faulted : (end : Ending) → HasEnded end → ending_status end ≡ 1 → end ≡ ending.Fault fault.Arith
+  is_faulted end (inl finished) one = let zero = ap ending_status finished in absurd cc
+  is_faulted end (inr fault) one = fault
+
+  pub faults : (name : List ℕ) (result : ℕ) → IsRunOf words name → Reports files name result out → result ≡ 1 → Wrote err [] → Faults words files out err
+  faults name result said r one nothing =
+      let end = is_faulted r.3 r.7 (sym r.5 ∙ one) in
       let answers : Answers words files (Ran name r.0 r.1 r.2 r.3) out err = record { stands = (said, r.4); on_out = r.6; on_err = nothing } in
       (name, r.0, r.1, r.2, subst (λ (e : Ending). Answers words files (Ran name r.0 r.1 r.2 e) out err) end answers)
 
@@ -78,7 +96,7 @@ module _ (words : List (List ℕ)) (files : LoadPort) (out err : PutPort) where
     no_failure (inl failed) = none.no_out failed
     no_failure (inr failed) = none.no_err failed
 
-    pub runs : (result : ℕ) → Ends words files result out err → (result ≡ 0) ⊎ (result ≡ 8)
+    pub runs : (result : ℕ) → Ends words files result out err → (result ≡ 0) ⊎ ((result ≡ 1) ⊎ (result ≡ 8))
     runs result (inl (cause, plain, is, answers)) = absurd (no_cause cause plain answers.stands)
     runs result (inr (inl (is, failed, cut))) = absurd (no_failure failed)
-    runs result (inr (inr (is, cut))) = inr is
+    runs result (inr (inr (is, cut))) = inr (inr is)

@@ -1,6 +1,7 @@
 -- What the top call answers and writes, by its words, what is told of the files, and what its puts did.
 use Rattle.std.specs.Prelude.{◌≡◌, ◌≤◌, ◌<◌, ◌⊎◌, ℕ, List, [], length, IfSome}
 use Rattle.ca_model.specs.declared.values.Event.{Event}
+use Rattle.ca_model.specs.declared.values.FaultKind.TheVariants as fault
 use Rattle.ca_model.specs.declared.values.Ending.{Ending}
 use Rattle.ca_model.specs.declared.values.Ending.TheVariants as ending
 use Rattle.ca_model.specs.Private.{Thread}
@@ -9,6 +10,7 @@ use Rattle.ca_model.specs.Codes.{Typed}
 use Rattle.ca_model.specs.SourceRuns.{rules_of}
 use Rattle.ca_model.specs.Reports.{report}
 use Rattle.ca_model.specs.Commands.{source_limit, Load, Loaded, Exceeded, Unloaded, Cause, Unread, TooLong, NotBuilt, Ran, ending_status, out_text, err_text, memory_text, IsRunOfFile, Stands}
+use Rattle.ca_cmd.specs.Runs.{HasEnded}
 use Rattle.ca_io.specs.Outside.{IsTold}
 use Rattle.ca_io.specs.Ports.{PutPort, LoadPort, Wrote, WrotePart, HasFailed, HasFailedLoad}
 
@@ -28,6 +30,10 @@ pub record Answers (words : List (List ℕ)) (files : LoadPort) (cause : Cause) 
 abbrev pub Finishes : List (List ℕ) → LoadPort → PutPort → PutPort → Type 0
 Finishes words files out err = (name : List ℕ) × (p : Typed) × (events : List Event) × (last : State Thread) × Answers words files (Ran name p events last ending.Finished) out err
 
+-- the report of a run that ended since a sum has no value was put, and nothing to `err`
+abbrev pub Faults : List (List ℕ) → LoadPort → PutPort → PutPort → Type 0
+Faults words files out err = (name : List ℕ) × (p : Typed) × (events : List Event) × (last : State Thread) × Answers words files (Ran name p events last (ending.Fault fault.Arith)) out err
+
 -- the source is refused, since it is too long or of another form
 abbrev pub Refuses : List (List ℕ) → LoadPort → PutPort → PutPort → Type 0
 Refuses words files out err = (name : List ℕ) × (Answers words files (TooLong name) out err ⊎ Answers words files (NotBuilt name) out err)
@@ -44,7 +50,7 @@ IsCut words files out err =
 
 -- the statuses that the call answers
 abbrev pub IsStatus : ℕ → Type 0
-IsStatus n = (n ≡ 0) ⊎ ((n ≡ 2) ⊎ ((n ≡ 3) ⊎ ((n ≡ 6) ⊎ ((n ≡ 7) ⊎ (n ≡ 8)))))
+IsStatus n = (n ≡ 0) ⊎ ((n ≡ 1) ⊎ ((n ≡ 2) ⊎ ((n ≡ 3) ⊎ ((n ≡ 6) ⊎ ((n ≡ 7) ⊎ (n ≡ 8))))))
 
 -- no count of faults has risen
 pub record NoneFailed (files : LoadPort) (out err : PutPort) : Type 0 where
@@ -60,7 +66,7 @@ Closes wanted text result p = ((result ≡ wanted) × Wrote p text) ⊎ (((resul
 abbrev pub Reports : LoadPort → List ℕ → ℕ → PutPort → Type 0
 Reports files name result out =
     (p : Typed) × (events : List Event) × (last : State Thread) × (end : Ending)
-    × IsRunOfFile (MayGive files) name p events last end × (result ≡ ending_status end) × Wrote out (report (rules_of p) last events end)
+    × IsRunOfFile (MayGive files) name p events last end × (result ≡ ending_status end) × Wrote out (report (rules_of p) last events end) × HasEnded end
 
 -- a front of the report of a run of the file was put
 abbrev pub ReportsPart : LoadPort → List ℕ → PutPort → Type 0

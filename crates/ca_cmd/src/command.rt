@@ -4,13 +4,14 @@ ghost use Rattle.ca_model.specs.Codes.{Typed};
 ghost use Rattle.ca_model.specs.FirstForm.{IsFirstForm};
 ghost use Rattle.ca_model.specs.Commands.{source_limit, IsRunOf, Loaded, Exceeded, Misworded, Unread, TooLong, NotBuilt, err_text, message, memory_text};
 ghost use Rattle.ca_io.specs.Ports.{put_port, load_port, Wrote, HasFailed, HasFailedLoad};
-ghost use Rattle.ca_cmd.specs.Serving.{MayGive, Answers, Finishes, Refuses, MissesFile, IsCut, IsStatus, NoneFailed, Closes, Reports, ReportsPart};
+ghost use Rattle.ca_cmd.specs.Serving.{MayGive, Answers, Finishes, Faults, Refuses, MissesFile, IsCut, IsStatus, NoneFailed, Closes, Reports, ReportsPart};
 
 use crate::reading::read;
 use crate::report::write_report;
 use crate::run::run;
 use crate::words::name_of;
 use ca_io::{Files, LoadNo, PutNo, Sink};
+use ca_tree::NoMemory;
 use std::alloc::{AllocError, Global};
 
 /// The most bytes that a source may have.
@@ -35,7 +36,7 @@ fn serve<F: Files, O: Sink>(
 ) -> Result<u8, Refusal>
     ensures ran { IfOk result (λ status. Reports (load_port F.holds F.faults files.old files.new)
         name.now status (put_port O.written O.faults out.old out.new)) }
-    ensures finished { IfOk result (λ status. status ≡ 0) }
+    ensures ended { IfOk result (λ status. (status ≡ 0) ⊎ (status ≡ 1)) }
     ensures unread { IsErrOf result Refusal.Unread →
         HasFailedLoad (load_port F.holds F.faults files.old files.new) }
     ensures unread_nothing { IsErrOf result Refusal.Unread → out.new ≡ out.old }
@@ -66,7 +67,11 @@ fn serve<F: Files, O: Sink>(
         Err(LoadNo::TooLong) => return Err(Refusal::TooLong),
         Err(LoadNo::NoMemory) => return Err(Refusal::NoMemory),
     };
-    let Some(form) = read(&bytes) else {
+    let found = match read(alloc, &bytes) {
+        Ok(found) => found,
+        Err(NoMemory) => return Err(Refusal::NoMemory),
+    };
+    let Some(form) = found else {
         return Err(Refusal::NotBuilt);
     };
     let Ok(ran) = run(alloc, &form) else {
@@ -143,7 +148,7 @@ fn refuse<E: Sink>(alloc: Global, name: &str, refusal: Refusal, err: &mut E) -> 
 
 /// Does what the words say, and answers the status that the program ends with. The words are `run FILE`: the source in FILE is run, and the report of its run is put to `out`, a line a put.
 ///
-/// The status is 0 where the run finished; 2 where the words are others; 3 where the source is longer than 1,048,576 bytes or not of the form that is built; 6 where FILE could not be loaded; 7 where a put failed; 8 where an allocation was refused. After 2, 3, 6 and 8 a text goes to `err`.
+/// The status is 0 where the run finished; 1 where a fault ended it; 2 where the words are others; 3 where the source is longer than 1,048,576 bytes or not of the form that is built; 6 where FILE could not be loaded; 7 where a put failed; 8 where an allocation was refused. After 2, 3, 6 and 8 a text goes to `err`.
 pub fn command_alone<F: Files, O: Sink, E: Sink>(
     alloc: Global,
     words: &[String],
@@ -153,6 +158,10 @@ pub fn command_alone<F: Files, O: Sink, E: Sink>(
 ) -> u8
     // what each status tells
     ensures finished { result ≡ 0 → Finishes (map string_bytes words.now)
+        (load_port F.holds F.faults files.old files.new)
+        (put_port O.written O.faults out.old out.new)
+        (put_port E.written E.faults err.old err.new) }
+    ensures faulted { result ≡ 1 → Faults (map string_bytes words.now)
         (load_port F.holds F.faults files.old files.new)
         (put_port O.written O.faults out.old out.new)
         (put_port E.written E.faults err.old err.new) }
@@ -202,7 +211,7 @@ pub fn command_alone<F: Files, O: Sink, E: Sink>(
         NoneFailed (load_port F.holds F.faults files.old files.new)
         (put_port O.written O.faults out.old out.new)
         (put_port E.written E.faults err.old err.new) →
-        (result ≡ 0) ⊎ (result ≡ 8) }
+        (result ≡ 0) ⊎ ((result ≡ 1) ⊎ (result ≡ 8)) }
 
     // FILE alone is asked for, at most once
     ensures asked_once { (F.asked files.new ≡ F.asked files.old) ⊎ ((name : List ℕ) ×

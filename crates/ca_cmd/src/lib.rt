@@ -4,6 +4,7 @@
 mod command;
 mod reading;
 mod report;
+mod reserved;
 mod run;
 mod words;
 

@@ -1,5 +1,5 @@
 -- The plan without a save fits every source, and is sound.
-use Rattle.std.proofs.Common.{arith, ◌≡◌, ℕ, List, []}
+use Rattle.std.proofs.Common.{arith, []}
 use Rattle.std.specs.Prelude.{Contains}
 use Rattle.ca_model.specs.Codes.{Typed}
 use Rattle.ca_model.specs.SourceRuns.{no_plan}

@@ -29,5 +29,6 @@ pub mod Numbering
 pub mod Example
 pub mod Traces
 pub mod Reports
+pub mod Words
 pub mod FirstForm
 pub mod Commands

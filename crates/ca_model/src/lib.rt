@@ -4,6 +4,7 @@
 mod laws;
 mod lists;
 mod plan;
+mod sums;
 mod tree;
 mod values;
 
@@ -15,6 +16,7 @@ pub use laws::{
 };
 pub use lists::{Events, Exps, FunList, Gives, ItemList, Numbers, SiteList};
 pub use plan::Plan;
+pub use sums::{Part, Parts, SumAct, SumActs, Sums};
 pub use tree::{
     Act, BinOp, Exp, Function, GlobalStart, Item, LoadKind, Place, Stmt, Stmts, Target,
 };

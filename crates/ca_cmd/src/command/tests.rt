@@ -1,7 +1,7 @@
 // The worked examples of the command, over files and sinks in memory.
 use super::command_alone;
 use ca_io::{MemoryFiles, MemorySink};
-use std::alloc::Global;
+use std::alloc::{AllocError, Global};
 use std::process::Abort;
 use std::test::Fail;
 
@@ -106,7 +106,7 @@ fn not_built_yet(rt: HostRuntime) -> Result<(), Fail> {
         out: "",
         err: NOT_BUILT,
     };
-    let sources: [&[u8]; 20] = [
+    let sources: [&[u8]; 19] = [
         b"int main(void){ if (1) return 0; return 1; }",
         b"int main(void){ return 2147483648; }",
         b"int main(void){ return 99999999999999999999; }",
@@ -120,7 +120,6 @@ fn not_built_yet(rt: HostRuntime) -> Result<(), Fail> {
         b"int main(void){ return 0 }",
         b"int main(void){ return 0; } x",
         b"int main(void){ return 0; /* x */ }",
-        b"int g; int main(void){ return 0; }",
         b"int main(void){ return 0; ",
         b"int Main(void){ return 0; }",
         b"int main(void){ return 0;\xff }",
@@ -132,6 +131,195 @@ fn not_built_yet(rt: HostRuntime) -> Result<(), Fail> {
         check(&rt, rt.alloc(), run_of(source), wanted)?;
     }
     Ok(())
+}
+
+// The report of a run, with this status.
+fn reports(
+    rt: &impl Abort,
+    alloc: Global,
+    source: &[u8],
+    status: u8,
+    out: &str,
+) -> Result<(), Fail> {
+    let wanted = Wanted {
+        status,
+        out,
+        err: "",
+    };
+    check(rt, alloc, run_of(source), wanted)
+}
+
+fn refuses(rt: &impl Abort, alloc: Global, source: &[u8]) -> Result<(), Fail> {
+    let wanted = Wanted {
+        status: 3,
+        out: "",
+        err: NOT_BUILT,
+    };
+    check(rt, alloc, run_of(source), wanted)
+}
+
+// A text with a piece in it that is there some times.
+fn repeated(
+    alloc: Global,
+    front: &str,
+    piece: &str,
+    count: u32,
+    back: &str,
+) -> Result<String, AllocError> {
+    let mut text = String::from_str(alloc, front)?;
+    for _ in 0..count {
+        text.push_str(piece)?;
+    }
+    text.push_str(back)?;
+    Ok(text)
+}
+
+#[test]
+fn print_sum(rt: HostRuntime) -> Result<(), Fail> {
+    reports(
+        &rt,
+        rt.alloc(),
+        b"int g; int main(void){ g = 2 + 3; printf(\"%d\\n\", g); return 0; }",
+        0,
+        "trace 4\n0 write @0.0 5\n0 read @0.0 5\n0 print 350a\n0 end\nending finished\noutput 2\n5\n",
+    )
+}
+
+#[test]
+fn sum_overflows(rt: HostRuntime) -> Result<(), Fail> {
+    let fault = "trace 1\n0 fault arith\nending fault\noutput 0\n";
+    let sources: [&[u8]; 3] = [
+        b"int g; int main(void){ g = 2147483647 + 1; return 0; }",
+        b"int main(void){ return 2147483647 + 1; }",
+        b"int main(void){ return 1 + 2147483647 + 0; }",
+    ];
+    for source in sources {
+        reports(&rt, rt.alloc(), source, 1, fault)?;
+    }
+    reports(
+        &rt,
+        rt.alloc(),
+        b"int g; int main(void){ g = 2147483647; printf(\"%d\\n\", 7); printf(\"%d\\n\", g + g); return 0; }",
+        1,
+        "trace 5\n0 write @0.0 2147483647\n0 print 370a\n0 read @0.0 2147483647\n0 read @0.0 2147483647\n0 fault arith\nending fault\noutput 2\n7\n",
+    )
+}
+
+#[test]
+fn globals_are_read_from_left_to_right(rt: HostRuntime) -> Result<(), Fail> {
+    reports(
+        &rt,
+        rt.alloc(),
+        b"int a; int b;\nint c;\nint main(void){ a = 1; b = 20; c = 300; a = a + 4 + b + 5 + c; return a; }",
+        0,
+        "trace 9\n0 write @0.0 1\n0 write @1.0 20\n0 write @2.0 300\n0 read @0.0 1\n0 read @1.0 20\n0 read @2.0 300\n0 write @0.0 330\n0 read @0.0 330\n0 end\nending finished\noutput 0\n",
+    )?;
+    reports(
+        &rt,
+        rt.alloc(),
+        b"int _; int x1; int main(void){ x1=x1+_; return 0; }",
+        0,
+        "trace 4\n0 read @1.0 0\n0 read @0.0 0\n0 write @1.0 0\n0 end\nending finished\noutput 0\n",
+    )
+}
+
+#[test]
+fn sums_not_built_yet(rt: HostRuntime) -> Result<(), Fail> {
+    let sources: [&[u8]; 24] = [
+        b"int g; int main(void){ h = 1; return 0; }",
+        b"int g; int main(void){ g = h; return 0; }",
+        b"int main(void){ return 0; } int main(void){ return 0; }",
+        b"int main; int main(void){ return 0; }",
+        b"int x; int x; int main(void){ return 0; }",
+        b"int x; int main(void){ x==1; return 0; }",
+        b"int x; int main(void){ x+=1; return 0; }",
+        b"int x; int main(void){ x = 1++2; return 0; }",
+        b"int x; int main(void){ x = 1 + +2; return 0; }",
+        b"int x; int main(void){ x = 010; return 0; }",
+        b"int x; int main(void){ x = 0x1; return 0; }",
+        b"int x; int main(void){ x = 1;; return 0; }",
+        b"int x; int main(void){ x = ; return 0; }",
+        b"int x; int main(void){ x = 1 +; return 0; }",
+        b"int x; int main(void){ printf(\"%d\", x); return 0; }",
+        b"int x; int main(void){ printf(\"%d\\n\"); return 0; }",
+        b"int while; int main(void){ return 0; }",
+        b"int printf; int main(void){ return 0; }",
+        b"int _Bool; int main(void){ return 0; }",
+        b"int 1x; int main(void){ return 0; }",
+        b"int x = 1; int main(void){ return 0; }",
+        b"int x, y; int main(void){ return 0; }",
+        b"int x; int main(void){ return 0; x = 1; }",
+        b"int x;",
+    ];
+    for source in sources {
+        refuses(&rt, rt.alloc(), source)?;
+    }
+    Ok(())
+}
+
+#[test]
+fn names_have_up_to_63_bytes(rt: HostRuntime) -> Result<(), Fail> {
+    let alloc = rt.alloc();
+    let long = repeated(alloc, "", "a", 62, "")?;
+    let source = format!(in alloc;
+        "int {long}b; int {long}c; int main(void){{ {long}c = 2; return {long}b; }}"
+    )?;
+    let out = "trace 3\n0 write @1.0 2\n0 read @0.0 0\n0 end\nending finished\noutput 0\n";
+    reports(&rt, alloc, source.as_str().as_bytes(), 0, out)?;
+    let longer = format!(in alloc; "int {long}bc; int main(void){{ return 0; }}")?;
+    refuses(&rt, alloc, longer.as_str().as_bytes())
+}
+
+#[test]
+fn sums_have_up_to_64_parts(rt: HostRuntime) -> Result<(), Fail> {
+    let alloc = rt.alloc();
+    let most = repeated(alloc, "int main(void){ return 0", " + 1", 63, "; }")?;
+    reports(&rt, alloc, most.as_str().as_bytes(), 0, REPORT)?;
+    let more = repeated(alloc, "int main(void){ return 0", " + 1", 64, "; }")?;
+    refuses(&rt, alloc, more.as_str().as_bytes())
+}
+
+#[test]
+fn main_has_up_to_1000_acts(rt: HostRuntime) -> Result<(), Fail> {
+    let alloc = rt.alloc();
+    let most = repeated(
+        alloc,
+        "int g; int main(void){ ",
+        "g = 1; ",
+        1000,
+        "return 0; }",
+    )?;
+    let out = repeated(
+        alloc,
+        "trace 1001\n",
+        "0 write @0.0 1\n",
+        1000,
+        "0 end\nending finished\noutput 0\n",
+    )?;
+    reports(&rt, alloc, most.as_str().as_bytes(), 0, out.as_str())?;
+    let more = repeated(
+        alloc,
+        "int g; int main(void){ ",
+        "g = 1; ",
+        1001,
+        "return 0; }",
+    )?;
+    refuses(&rt, alloc, more.as_str().as_bytes())
+}
+
+#[test]
+fn there_are_up_to_1024_globals(rt: HostRuntime) -> Result<(), Fail> {
+    let alloc = rt.alloc();
+    let mut declarations = String::new(alloc);
+    for number in 0..1024u32 {
+        let line = format!(in alloc; "int g{number};\n")?;
+        declarations.push_str(line.as_str())?;
+    }
+    let most = format!(in alloc; "{declarations}int main(void){{ return g1023; }}")?;
+    let out = "trace 2\n0 read @1023.0 0\n0 end\nending finished\noutput 0\n";
+    reports(&rt, alloc, most.as_str().as_bytes(), 0, out)?;
+    let more = format!(in alloc; "int h; {declarations}int main(void){{ return 0; }}")?;
+    refuses(&rt, alloc, more.as_str().as_bytes())
 }
 
 #[test]

@@ -1,7 +1,7 @@
 use Rattle.std.proofs.Common.{Err, inl, inr, ap, refl, map, string_bytes}
 use Rattle.ca_io.specs.Ports.{PutPort, LoadPort, load_port, put_port}
 use Rattle.ca_cmd.proofs.Ends.{Ends, ends_refused, wrote_nothing}
-use Rattle.ca_cmd.proofs.Statuses.{finishes, is_built, cut_at, runs}
+use Rattle.ca_cmd.proofs.Statuses.{finishes, faults, is_built, cut_at, runs}
 use Rattle.ca_cmd.proofs.command.command_alone.Goals as goal
 use Rattle.ca_cmd.proofs.command.command_alone.Given.{Over}
 
@@ -11,6 +11,13 @@ returns-in-Ok-clause-finished g c = λ zero.
     let out : PutPort = put_port g.O.Sink.written g.O.Sink.faults c.args.out.now c.serve.new.out in
     let err : PutPort = put_port g.E.Sink.written g.E.Sink.faults c.args.err.now c.args.err.now in
     finishes (map string_bytes c.args.words.now) files out err c.in-Some.name.now c.in-Ok.status c.in-Some.ensures.found c.in-Ok.ensures.ran zero (wrote_nothing g.E.Sink.written g.E.Sink.faults _ _ refl)
+
+pub returns-in-Ok-clause-faulted : goal.returns-in-Ok-clause-faulted
+returns-in-Ok-clause-faulted g c = λ one.
+    let files : LoadPort = load_port g.F.Files.holds g.F.Files.faults c.args.files.now c.serve.new.files in
+    let out : PutPort = put_port g.O.Sink.written g.O.Sink.faults c.args.out.now c.serve.new.out in
+    let err : PutPort = put_port g.E.Sink.written g.E.Sink.faults c.args.err.now c.args.err.now in
+    faults (map string_bytes c.args.words.now) files out err c.in-Some.name.now c.in-Ok.status c.in-Some.ensures.found c.in-Ok.ensures.ran one (wrote_nothing g.E.Sink.written g.E.Sink.faults _ _ refl)
 
 pub returns-in-Ok-clause-source_unbuilt : goal.returns-in-Ok-clause-source_unbuilt
 returns-in-Ok-clause-source_unbuilt g c = λ name bytes said told none quiet.
