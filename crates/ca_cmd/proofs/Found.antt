@@ -2,7 +2,7 @@
 use Rattle.std.proofs.Common.{◌≡◌, ◌≤◌, ◌+◌, ℕ, zero, suc, List, [], ◌∷◌, ◌++◌, Bool, true, false, not, ◌&&◌, Option, Some, None, refl, sym, ap, subst, ◌∙◌, arith, nat_le, length, append_assoc, if◌then◌else◌, codes, All}
 use Rattle.std.specs.Prelude.{slice_get}
 use Rattle.std.specs.Str.{bytes_eq}
-use Rattle.std.proofs.lemmas.Bool.{leb-true}
+use Rattle.std.proofs.lemmas.Bool.{and_parts, leb-true}
 use Rattle.std.proofs.lemmas.Slice.Eq.{bytes_eq-Decides}
 use Rattle.std.proofs.lemmas.List.Elements.{All-nil, All-cons}
 use Rattle.ca_model.specs.declared.sums.Part.{Part}
@@ -13,7 +13,7 @@ use Rattle.ca_model.specs.declared.sums.Sums.{Sums}
 use Rattle.ca_model.specs.Words.{IsWord, is_one_of, is_reserved, IsGlobalName}
 use Rattle.ca_model.specs.FirstForm.{AreBlanks, IsPart, IsSum, IsAct, AreActs, AreSums, AreNamesAfter, IsWithin, sum_of, declarations, heading, format_word}
 use Rattle.ca_cmd.specs.Reading.{◌>>=◌, after_token, after_tokens, numeral_at, word_at, index_from, global_named, or_global, part_at, put_first, more_parts, sum_at, set_at, print_opening, print_closing, print_at, act_by, act_at, acts_by, acts_at, is_free, declared, declared_at, globals_by, globals_at, opening, closing, after_blanks, is_empty, body_at, body_of, sums_at}
-use Rattle.ca_cmd.proofs.Lexing.{Follows, Reads, reads_join, bind_some, chosen, blanks_only, token_found, tokens_found, numeral_found, word_found}
+use Rattle.ca_cmd.proofs.Lexing.{Follows, Reads, reads_join, bind_some, chosen, not_true, blanks_only, token_found, tokens_found, numeral_found, word_found}
 
 -- what is found, under its names
 settled : {A : Type 0} (P : A → List ℕ → Type 0) (x : A) (mid : List ℕ) (y : A) (rest : List ℕ) → ◌≡◌ {A = Option (A × List ℕ)} (Some (x, mid)) (Some (y, rest)) → P x mid → P y rest
@@ -186,18 +186,10 @@ no_globals n earlier text w rest h e =
     let main : w ≡ codes "main" = (bytes_eq-Decides w (codes "main")).0 e in
     record { reads = (d.0, d.1, (rest, subst (λ (t : List ℕ). Follows t d.0 rest) main d.3, refl)); differ = tt; few = omega arith }
 
-both_true : (a b : Bool) → (a && b) ≡ true → (a ≡ true) × (b ≡ true)
-both_true true b h = (refl, h)
-both_true false b h = absurd cc
-
-not_true : (b : Bool) → not b ≡ true → b ≡ false
-not_true true h = absurd cc
-not_true false h = refl
-
 free_name : (earlier : List (List ℕ)) (w : List ℕ) → IsWord w → is_free earlier w ≡ true → IsGlobalName w × (is_one_of earlier w ≡ false)
 free_name earlier w word h =
-    let one = both_true (nat_le (length w) 63) (not (is_reserved w) && not (is_one_of earlier w)) h in
-    let two = both_true (not (is_reserved w)) (not (is_one_of earlier w)) one.1 in
+    let one = and_parts (nat_le (length w) 63) (not (is_reserved w) && not (is_one_of earlier w)) h in
+    let two = and_parts (not (is_reserved w)) (not (is_one_of earlier w)) one.1 in
     (record { spelled = word; short = leb-true (length w) 63 one.0; free = not_true (is_reserved w) two.0 }, not_true (is_one_of earlier w) two.1)
 
 no_more : (names : List (List ℕ)) (rest w : List ℕ) (o : Option (List ℕ)) → (o >>= (λ next. None >>= put_first w)) ≡ Some (names, rest) → ⊥

@@ -4,7 +4,7 @@ use Rattle.std.specs.Prelude.{map, ◌≢◌}
 use Rattle.std.specs.List.{list_all}
 use Rattle.std.proofs.lemmas.Bool.Decides.{nat_tests}
 use Rattle.std.proofs.lemmas.List.{append-nil}
-use Rattle.std.proofs.lemmas.Bool.{eqb-true, eq-eqb, ltb-true, lt-ltb}
+use Rattle.std.proofs.lemmas.Bool.{and_parts, eqb-true, eq-eqb, ltb-true, lt-ltb}
 use Rattle.ca_tree.specs.declared.text.Pos.{Pos}
 use Rattle.ca_tree.specs.Places.{after}
 use Rattle.ca_model.specs.Words.{is_digit, is_word_byte, IsWord}
@@ -115,7 +115,7 @@ front_taken : (token rest : List ℕ) → after_front token (token ++ rest) ≡ 
 front_taken [] rest = refl
 front_taken (c ∷ cs) rest = rw (eq-eqb c c refl) (front_taken cs rest)
 
-not_true : (b : Bool) → not b ≡ true → b ≡ false
+pub not_true : (b : Bool) → not b ≡ true → b ≡ false
 not_true true h = absurd cc
 not_true false h = refl
 
@@ -367,19 +367,15 @@ word_found text w rest h =
     let f = word_front_found (after_blanks text) w rest h in
     (f.0, follows_front text w rest f.1 (word_longest w rest f.0 f.2))
 
-and_both : (a b : Bool) → (a && b) ≡ true → (a ≡ true) × (b ≡ true)
-and_both true b h = (refl, h)
-and_both false b h = absurd cc
-
 word_bytes_taken : (cs rest : List ℕ) → list_all is_word_byte cs ≡ true → Ends rest → word_bytes (cs ++ rest) ≡ cs
 word_bytes_taken [] [] all ends = refl
 word_bytes_taken [] (r ∷ rs) all ends = rw ends refl
-word_bytes_taken (c ∷ cs) rest all ends = let t = and_both (is_word_byte c) (list_all is_word_byte cs) all in rw t.0 (ap (λ (t : List ℕ). c ∷ t) (word_bytes_taken cs rest t.1 ends))
+word_bytes_taken (c ∷ cs) rest all ends = let t = and_parts (is_word_byte c) (list_all is_word_byte cs) all in rw t.0 (ap (λ (t : List ℕ). c ∷ t) (word_bytes_taken cs rest t.1 ends))
 
 after_word_taken : (cs rest : List ℕ) → list_all is_word_byte cs ≡ true → Ends rest → after_word (cs ++ rest) ≡ rest
 after_word_taken [] [] all ends = refl
 after_word_taken [] (r ∷ rs) all ends = rw ends refl
-after_word_taken (c ∷ cs) rest all ends = let t = and_both (is_word_byte c) (list_all is_word_byte cs) all in rw t.0 (after_word_taken cs rest t.1 ends)
+after_word_taken (c ∷ cs) rest all ends = let t = and_parts (is_word_byte c) (list_all is_word_byte cs) all in rw t.0 (after_word_taken cs rest t.1 ends)
 
 pub word_taken : (w text rest : List ℕ) → IsWord w → Follows w text rest → word_at text ≡ Some (w, rest)
 unfolding word_at

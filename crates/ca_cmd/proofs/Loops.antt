@@ -80,10 +80,10 @@ pub globals_full : (earlier : List (List ℕ)) (text w rest : List ℕ) (xs : Li
 unfolding globals_at
 globals_full earlier text w rest xs h e = rw (h, e) (nothing_more w xs (is_free earlier w) (after_token (codes ";") rest))
 
-pub globals_taken : (k : ℕ) (earlier : List (List ℕ)) (text w rest : List ℕ) (xs : List (List ℕ)) → declared_at text ≡ Some (w, rest) → bytes_eq w (codes "main") ≡ false → is_free earlier w ≡ false → prepend xs (globals_at k earlier text) ≡ None
+pub globals_unfree : (k : ℕ) (earlier : List (List ℕ)) (text w rest : List ℕ) (xs : List (List ℕ)) → declared_at text ≡ Some (w, rest) → bytes_eq w (codes "main") ≡ false → is_free earlier w ≡ false → prepend xs (globals_at k earlier text) ≡ None
 unfolding globals_at
-globals_taken zero earlier text w rest xs h e f = rw (h, e, f) refl
-globals_taken (suc n) earlier text w rest xs h e f = rw (h, e, f) refl
+globals_unfree zero earlier text w rest xs h e f = rw (h, e, f) refl
+globals_unfree (suc n) earlier text w rest xs h e f = rw (h, e, f) refl
 
 pub globals_open : (k : ℕ) (earlier : List (List ℕ)) (text w rest : List ℕ) (xs : List (List ℕ)) → declared_at text ≡ Some (w, rest) → bytes_eq w (codes "main") ≡ false → is_free earlier w ≡ true → after_token (codes ";") rest ≡ None → prepend xs (globals_at k earlier text) ≡ None
 unfolding globals_at

@@ -1,6 +1,6 @@
 -- The acts of a source in order, as a run of the model from its opening.
-use Rattle.std.proofs.Common.{arith, ◌≡◌, ◌≢◌, ℕ, zero, suc, ◌+◌, ◌*◌, ◌<◌, ◌⊎◌, Bool, true, false, List, [], ◌∷◌, ◌++◌, map, length, Some, None, refl, sym, ap, ◌∙◌, subst, inl, inr}
-use Rattle.std.specs.Prelude.{ℤ, pos, ◌+ℤ◌, All, is_some, replicate, slice_set, if◌then◌else◌}
+use Rattle.std.proofs.Common.{arith, ◌≡◌, ◌≢◌, ℕ, zero, suc, ◌+◌, ◌*◌, ◌<◌, true, false, List, [], ◌∷◌, ◌++◌, map, length, Some, None, refl, sym, ap, ◌∙◌, subst, inl, inr}
+use Rattle.std.specs.Prelude.{ℤ, pos, ◌+ℤ◌, All, is_some, replicate, slice_set}
 use Rattle.std.specs.Ordering.{nat_cmp}
 use Rattle.std.specs.FinMap as map
 use Rattle.std.specs.FinSet as set
@@ -26,6 +26,10 @@ use Rattle.ca_model.specs.Codes.{Typed, code_of}
 use Rattle.ca_model.specs.Opening.{opening_shared, globals_from}
 use Rattle.ca_model.specs.SourceRuns.{no_plan, rules_of}
 use Rattle.ca_model.specs.FirstForm.{Token, main_id, sum_of, act_of, act_words, format_text, place_of, items_from, return_item, close_item, typed}
+use Rattle.std.proofs.lemmas.List.{length-set, length-replicate, get_or-replicate, get_or-set_same, get_or-set_other}
+use Rattle.std.proofs.lemmas.List.Elements.{All-head, All-tail}
+use Rattle.std.proofs.lemmas.Bool.{cases_eq}
+use Rattle.ca_cmd.proofs.Lexing.{chosen}
 use Rattle.ca_model.proofs.Cells.{get_here, get_there, read_back, read_other}
 use Rattle.ca_model.proofs.Stepping.{at, passes, enters}
 use Rattle.ca_cmd.specs.declared.run.SourceRun.{SourceRun}
@@ -33,15 +37,11 @@ use Rattle.ca_cmd.specs.Runs.{IsRunOfSource, IsClosed, IsClosedPart, IsClosedAct
 use Rattle.ca_cmd.specs.Running.{cell_of, held, part_value, sum_value, Traced, before, finished, act_event, act_output, cells_after, acts_run}
 use Rattle.ca_cmd.proofs.SumAsks.{last_ask, want_of, act_is, return_is}
 use Rattle.ca_cmd.proofs.SumSteps.{IsOpen, Goes, code, goes_write, goes_print, goes_end}
-use Rattle.ca_cmd.proofs.SumRuns.{Holds, FitEach, first_of_all, others_of_all, frame, AsksSo, begun_so, stays_so, sum_goes}
+use Rattle.ca_cmd.proofs.SumRuns.{Holds, FitEach, frame, AsksSo, begun_so, stays_so, sum_goes}
 
--- a number that is in range, and what a sum gives
-picked : (b : Bool) (n u : ℤ) → (if b then Some n else None) ≡ Some u → n ≡ u
-picked true n u is = cc
-picked false n u is = absurd cc
-
+-- what a sum gives is in range
 fits_again : (n u : ℤ) → in32 n ≡ Some u → in32 u ≡ Some u
-fits_again n u is = subst (λ z. in32 z ≡ Some u) (picked (fits32 n) n u is) is
+fits_again n u is = subst (λ z. in32 z ≡ Some u) (chosen (fits32 n) n u is).1 is
 
 value_fits : (cells : List ℤ) (ps : List Part) (y z : ℤ) → in32 y ≡ Some y → sum_value cells y ps ≡ Some z → in32 z ≡ Some z
 value_fits cells [] y z fits is = let same : y ≡ z = cc in subst (λ z. in32 z ≡ Some z) same fits
@@ -53,43 +53,20 @@ value_fits cells (p ∷ ps) y z fits is =
     ] refl is
 
 -- a cell that is set, and the others
-same_or_not : (j k : ℕ) → (j ≡ k) ⊎ (j ≢ k)
-same_or_not zero zero = inl refl
-same_or_not zero (suc k) = inr (λ e. omega (arith, e))
-same_or_not (suc j) zero = inr (λ e. omega (arith, e))
-same_or_not (suc j) (suc k) = elim (same_or_not j k) [ inl e ↦ inl (ap suc e) | inr n ↦ inr (λ e. n (omega (arith, e))) ]
-
-set_here : (cells : List ℤ) (k : ℕ) (z : ℤ) → k < length cells → held (slice_set cells k z) k ≡ z
-set_here [] k z lt = absurd (omega arith)
-set_here (x ∷ cells) zero z lt = refl
-set_here (x ∷ cells) (suc k) z lt = set_here cells k z (omega arith)
-
-set_there : (cells : List ℤ) (j k : ℕ) (z : ℤ) → j ≢ k → held (slice_set cells k z) j ≡ held cells j
-set_there [] j k z ne = refl
-set_there (x ∷ cells) zero zero z ne = absurd (ne refl)
-set_there (x ∷ cells) zero (suc k) z ne = refl
-set_there (x ∷ cells) (suc j) zero z ne = refl
-set_there (x ∷ cells) (suc j) (suc k) z ne = set_there cells j k z (λ e. ne (ap suc e))
-
-set_length : (cells : List ℤ) (k : ℕ) (z : ℤ) → length (slice_set cells k z) ≡ length cells
-set_length [] k z = refl
-set_length (x ∷ cells) zero z = refl
-set_length (x ∷ cells) (suc k) z = ap suc (set_length cells k z)
-
 module _ (h : Shared) (cells : List ℤ) (k : ℕ) (z : ℤ) (holds : Holds h cells) (fit : FitEach cells) (there : k < length cells) where
   abbrev put : List ℤ
   put = slice_set cells k z
 
   pub holds_put : Holds (effect h 0 (event.Write (cell_of k) (v.Num z))) put
-  holds_put j lt = elim (same_or_not j k) [
-    | inl e ↦ subst (λ j. cell (effect h 0 (event.Write (cell_of k) (v.Num z))).blocks j (pos 0) ≡ Some (v.Num (held put j))) (sym e) (read_back h.blocks (cell_of k) (v.Num z) (v.Num (held cells k)) (holds k there) ∙ ap (λ n. Some (v.Num n)) (sym (set_here cells k z there)))
-    | inr ne ↦ read_other h.blocks (cell_of k) (v.Num z) j (pos 0) ne ∙ (holds j (rw set_length at lt) ∙ ap (λ n. Some (v.Num n)) (sym (set_there cells j k z ne)))
+  holds_put j lt = elim (cases_eq j k) [
+    | inl e ↦ subst (λ j. cell (effect h 0 (event.Write (cell_of k) (v.Num z))).blocks j (pos 0) ≡ Some (v.Num (held put j))) (sym e) (read_back h.blocks (cell_of k) (v.Num z) (v.Num (held cells k)) (holds k there) ∙ ap (λ n. Some (v.Num n)) (sym (get_or-set_same cells k z (pos 0) there)))
+    | inr ne ↦ read_other h.blocks (cell_of k) (v.Num z) j (pos 0) ne ∙ (holds j (rw length-set at lt) ∙ ap (λ n. Some (v.Num n)) (sym (get_or-set_other cells k j z (pos 0) ne)))
   ]
 
   pub fit_put : in32 z ≡ Some z → FitEach put
-  fit_put fits j lt = elim (same_or_not j k) [
-    | inl e ↦ subst (λ n. in32 n ≡ Some n) (sym (ap (held put) e ∙ set_here cells k z there)) fits
-    | inr ne ↦ subst (λ n. in32 n ≡ Some n) (sym (set_there cells j k z ne)) (fit j (rw set_length at lt))
+  fit_put fits j lt = elim (cases_eq j k) [
+    | inl e ↦ subst (λ n. in32 n ≡ Some n) (sym (ap (held put) e ∙ get_or-set_same cells k z (pos 0) there)) fits
+    | inr ne ↦ subst (λ n. in32 n ≡ Some n) (sym (get_or-set_other cells k j z (pos 0) ne)) (fit j (rw length-set at lt))
   ]
 
 module _ (base : Code) (f : Sums) (ts : List Token) (ends : All (IsClosedPart f.globals) f.returned) where
@@ -118,7 +95,7 @@ module _ (base : Code) (f : Sums) (ts : List Token) (ends : All (IsClosedPart f.
       let does : Traced = acts_run acts f.returned (slice_set cells k z) in
       let q : Asks Done = last_ask (want_of (sum_act.Set k sum)) (v.Num z) in
       let goes : Goes base after (settled (code base) (at main_id [] [] ls) ∷ []) does =
-      next (slice_set cells k z) after (record { open_yet = opened.open_yet; one = opened.one; going = opened.going }) (holds_put h cells k z holds fit there) (fit_put h cells k z holds fit there fits) (set_length cells k z ∙ count) in
+      next (slice_set cells k z) after (record { open_yet = opened.open_yet; one = opened.one; going = opened.going }) (holds_put h cells k z holds fit there) (fit_put h cells k z holds fit there fits) (length-set cells k z ∙ count) in
       goes_so h item ls xs q (before (by 0 (event.Write (cell_of k) (v.Num z)) ∷ []) [] does) so tt
       (goes_write base h opened (frame base item ls xs) k z does (ap wanted (begun_so base item ls xs q so)) (ap is_some (holds k there))
       (subst (λ g. Goes base after (g ∷ []) does) (sym (passes_so item ls (want_of (sum_act.Set k sum)) xs z so)) goes))
@@ -147,13 +124,13 @@ module _ (base : Code) (f : Sums) (ts : List Token) (ends : All (IsClosedPart f.
       goes_so h item ls xs (last_ask Returns (v.Num z)) finished so tt
       (goes_end base h opened (frame base item ls xs) (v.Num z) (ap wanted (begun_so base item ls xs (last_ask Returns (v.Num z)) so))))
   acts_go i w (a ∷ acts) closed cells h opened holds fit count =
-      let here : IsClosedAct f.globals a = first_of_all (IsClosedAct f.globals) a acts closed in
+      let here : IsClosedAct f.globals a = All-head (IsClosedAct f.globals) a acts closed in
       let item : Item = record { id = record { 0 = i }; pos = place_of ts w; act = act_of a } in
       let ls : List Left = lefts (i + 1) (w + act_words a) acts in
       sum_goes base item ls (want_of a) cells h opened holds fit (λ x. before (by 0 (act_event a x) ∷ []) (act_output a x) (acts_run acts f.returned (cells_after cells a x))) (sum_of a) (rw count (closed_sum a here))
       (λ ys. act_is a item.id ((code base).first_site item.id) ys)
       (λ xs z value so.
-      act_goes a (i + 1) (w + act_words a) acts item cells h opened holds fit count here (acts_go (i + 1) (w + act_words a) acts (others_of_all (IsClosedAct f.globals) a acts closed)) xs z
+      act_goes a (i + 1) (w + act_words a) acts item cells h opened holds fit count here (acts_go (i + 1) (w + act_words a) acts (All-tail (IsClosedAct f.globals) a acts closed)) xs z
       (value_fits cells (sum_of a) (pos 0) z refl value) so)
 
 -- the cells of the globals at the opening
@@ -175,15 +152,6 @@ zero_cell m (suc n) (suc k) lt =
     let same : m + 1 + k ≡ m + suc k = omega arith in
     ap (λ o. cell_at (if_live o) (pos 0)) (get_there rest m (m + suc k) zero_block other) ∙ subst (λ j. cell rest j (pos 0) ≡ Some null) same (zero_cell (m + 1) n k (omega arith))
 
-replicate_length : {A : Type 0} (n : ℕ) (x : A) → length (replicate n x) ≡ n
-replicate_length zero x = refl
-replicate_length (suc n) x = ap suc (replicate_length n x)
-
-zero_held : (n k : ℕ) → held (replicate n (pos 0)) k ≡ pos 0
-zero_held zero k = refl
-zero_held (suc n) zero = refl
-zero_held (suc n) (suc k) = zero_held n k
-
 module _ (f : Sums) (ts : List Token) (closed : IsClosed f) where
   abbrev p : Typed
   p = typed f ts
@@ -201,15 +169,15 @@ module _ (f : Sums) (ts : List Token) (closed : IsClosed f) where
   opened = record { open_yet = refl; one = refl; going = set.contains-empty nat_cmp 0 }
 
   zeros_count : length zeros ≡ f.globals
-  zeros_count = replicate_length f.globals (pos 0)
+  zeros_count = length-replicate f.globals (pos 0)
 
   holds : Holds (opening_shared p) zeros
   holds k lt =
       let at_k : 0 + k ≡ k = omega arith in
-      subst (λ j. cell (opening_shared p).blocks j (pos 0) ≡ Some null) at_k (zero_cell 0 f.globals k (rw zeros_count at lt)) ∙ ap (λ n. Some (v.Num n)) (sym (zero_held f.globals k))
+      subst (λ j. cell (opening_shared p).blocks j (pos 0) ≡ Some null) at_k (zero_cell 0 f.globals k (rw zeros_count at lt)) ∙ ap (λ n. Some (v.Num n)) (sym (get_or-replicate f.globals k (pos 0) (pos 0) (rw zeros_count at lt)))
 
   fit : FitEach zeros
-  fit k lt = subst (λ n. in32 n ≡ Some n) (sym (zero_held f.globals k)) refl
+  fit k lt = subst (λ n. in32 n ≡ Some n) (sym (get_or-replicate f.globals k (pos 0) (pos 0) (rw zeros_count at lt))) refl
 
   goes : Goes base (opening_shared p) ((rules_of p).start p.main null) (acts_run f.acts f.returned zeros)
   goes =

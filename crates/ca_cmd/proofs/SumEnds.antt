@@ -1,7 +1,7 @@
 -- How a run of sums ends, and of which events it is.
-use Rattle.std.proofs.Common.{arith, zero, suc, List, [], ◌∷◌, ◌++◌, Option, Some, None, refl, inl, inr}
+use Rattle.std.proofs.Common.{List, [], ◌∷◌, ◌++◌, Option, Some, None, refl, inl, inr}
 use Rattle.std.specs.Prelude.{ℤ, pos, ◌+ℤ◌}
-use Rattle.std.proofs.lemmas.List.Elements.{All-append}
+use Rattle.std.proofs.lemmas.List.Elements.{All-nil, All-cons, All-append}
 use Rattle.ca_model.specs.declared.values.Event.{Event}
 use Rattle.ca_model.specs.declared.sums.Part.{Part}
 use Rattle.ca_model.specs.declared.sums.Part.TheVariants as part
@@ -10,6 +10,7 @@ use Rattle.ca_model.specs.declared.sums.SumAct.TheVariants as sum_act
 use Rattle.ca_model.specs.Arith.{in32}
 use Rattle.ca_model.specs.FirstForm.{sum_of}
 use Rattle.ca_cmd.specs.Runs.{IsSimple, AreSimple, HasEnded}
+use Rattle.ca_cmd.proofs.SumRuns.{events_by}
 use Rattle.ca_cmd.specs.Running.{the_fault, part_value, part_events, sum_value, sum_events, Traced, going_on, act_event, cells_after, acts_run}
 
 going_ends : (o : Option ℤ) (more : ℤ → Traced) → ((x : ℤ) → HasEnded (more x).ending) → HasEnded (going_on o more).ending
@@ -24,11 +25,10 @@ abbrev Simple : Event → Type 0
 Simple e = IsSimple e.act
 
 none_simple : AreSimple []
-none_simple = λ k d lt. absurd (omega arith)
+none_simple = All-nil Simple
 
 one_more : (e : Event) (es : List Event) → Simple e → AreSimple es → AreSimple (e ∷ es)
-one_more e es here more zero d lt = here
-one_more e es here more (suc k) d lt = more k d (omega arith)
+one_more e es here more = All-cons Simple e es here more
 
 join : (es more : List Event) → AreSimple es → AreSimple more → AreSimple (es ++ more)
 join es more = All-append Simple es more
@@ -40,8 +40,8 @@ part_simple cells (part.Global k) = one_more _ [] tt none_simple
 sum_simple : (cells : List ℤ) (z : ℤ) (ps : List Part) → AreSimple (sum_events cells z ps)
 sum_simple cells z [] = none_simple
 sum_simple cells z (p ∷ ps) =
-    join (part_events cells p) (elim (in32 (z +ℤ part_value cells p)) [ None ↦ the_fault ∷ [] | Some y ↦ sum_events cells y ps ]) (part_simple cells p)
-    (elim (in32 (z +ℤ part_value cells p)) as (λ o. AreSimple (elim o [ None ↦ the_fault ∷ [] | Some y ↦ sum_events cells y ps ])) [
+    join (part_events cells p) (events_by cells ps (in32 (z +ℤ part_value cells p))) (part_simple cells p)
+    (elim (in32 (z +ℤ part_value cells p)) as (λ o. AreSimple (events_by cells ps o)) [
       | None ↦ one_more the_fault [] tt none_simple
       | Some y ↦ sum_simple cells y ps
     ])

@@ -1,7 +1,8 @@
 -- A sum and the event that it is for, as a run of the model.
-use Rattle.std.proofs.Common.{arith, ◌≡◌, ℕ, suc, ◌<◌, ◌^◌, List, [], ◌∷◌, ◌++◌, length, Option, Some, None, refl, sym, ap, ◌∙◌, subst, append-nil, append_assoc}
+use Rattle.std.proofs.Common.{arith, ◌≡◌, ℕ, ◌<◌, ◌^◌, List, [], ◌∷◌, ◌++◌, length, Option, Some, None, refl, sym, ap, ◌∙◌, subst, append-nil, append_assoc}
 use Rattle.std.specs.Prelude.{ℤ, pos, ◌+ℤ◌, All}
 use Rattle.std.proofs.lemmas.Int.{ints}
+use Rattle.std.proofs.lemmas.List.Elements.{All-head, All-tail}
 use Rattle.ca_model.specs.declared.values.Value.{Value}
 use Rattle.ca_model.specs.declared.values.Value.TheVariants as v
 use Rattle.ca_model.specs.declared.values.Event.{Event}
@@ -36,23 +37,17 @@ FitEach cells = (k : ℕ) → k < length cells → in32 (held cells k) ≡ Some 
 abbrev number_or_none : Option ℤ → Option Value
 number_or_none o = elim o [ None ↦ None | Some n ↦ Some (v.Num n) ]
 
--- of the first, and of the others
-pub first_of_all : {A : Type 0} (P : A → Type 0) (x : A) (xs : List A) → All P (x ∷ xs) → P x
-first_of_all P x xs all = all 0 x (omega arith)
-
-pub others_of_all : {A : Type 0} (P : A → Type 0) (x : A) (xs : List A) → All P (x ∷ xs) → All P xs
-others_of_all P x xs all = λ k d lt. all (suc k) d (omega arith)
-
 nothing_more : (z : ℤ) → pos 0 +ℤ z ≡ z
 nothing_more z = omega (arith, ints)
 
 number_is : (n : ℕ) → n < 2 ^ 31 → in32 (pos n) ≡ Some (pos n)
 number_is n small = grind (arith, ints)
 
-abbrev events_by : List ℤ → List Part → Option ℤ → List Event
+-- what follows an addition, by its value
+abbrev pub events_by : List ℤ → List Part → Option ℤ → List Event
 events_by cells more o = elim o [ None ↦ the_fault ∷ [] | Some y ↦ sum_events cells y more ]
 
-abbrev value_by : List ℤ → List Part → Option ℤ → Option ℤ
+abbrev pub value_by : List ℤ → List Part → Option ℤ → Option ℤ
 value_by cells more o = elim o [ None ↦ None | Some y ↦ sum_value cells y more ]
 
 module _ (base : Code) (i : Item) (ls : List Left) where
@@ -104,12 +99,12 @@ module _ (base : Code) (i : Item) (ls : List Left) where
         → From xs (before (sum_events cells z ps) [] (going_on (sum_value cells z ps) more))
     rest_goes [] z xs closed so lasts = lasts xs z refl so
     rest_goes (part.Number n ∷ ps) z xs closed so lasts =
-        adds (pos n) z ps xs (in32 (z +ℤ pos n)) refl so (λ y is so. rest_goes ps y xs (others_of_all (IsClosedPart (length cells)) (part.Number n) ps closed) so (λ xs z same. lasts xs z (ap (value_by cells ps) is ∙ same)))
+        adds (pos n) z ps xs (in32 (z +ℤ pos n)) refl so (λ y is so. rest_goes ps y xs (All-tail (IsClosedPart (length cells)) (part.Number n) ps closed) so (λ xs z same. lasts xs z (ap (value_by cells ps) is ∙ same)))
     rest_goes (part.Global k ∷ ps) z xs closed so lasts =
         let u : ℤ = held cells k in
         let q : Asks Done = λ ys. then (sum_then (v.Num z) (part.Global k ∷ ps) ys) (last_ask w) in
-        reads k xs q (before (events_by cells ps (in32 (z +ℤ u))) [] (going_on (value_by cells ps (in32 (z +ℤ u))) more)) (first_of_all (IsClosedPart (length cells)) (part.Global k) ps closed) so refl
-        (adds u z ps (xs ++ v.Num u ∷ []) (in32 (z +ℤ u)) refl (next_so xs q (v.Num u) so) (λ y is so. rest_goes ps y (xs ++ v.Num u ∷ []) (others_of_all (IsClosedPart (length cells)) (part.Global k) ps closed) so (λ xs z same. lasts xs z (ap (value_by cells ps) is ∙ same))))
+        reads k xs q (before (events_by cells ps (in32 (z +ℤ u))) [] (going_on (value_by cells ps (in32 (z +ℤ u))) more)) (All-head (IsClosedPart (length cells)) (part.Global k) ps closed) so refl
+        (adds u z ps (xs ++ v.Num u ∷ []) (in32 (z +ℤ u)) refl (next_so xs q (v.Num u) so) (λ y is so. rest_goes ps y (xs ++ v.Num u ∷ []) (All-tail (IsClosedPart (length cells)) (part.Global k) ps closed) so (λ xs z same. lasts xs z (ap (value_by cells ps) is ∙ same))))
 
     -- a whole sum: its first part is the value that nothing is added to
     first_is : (p : Part) → IsClosedPart (length cells) p → in32 (pos 0 +ℤ part_value cells p) ≡ Some (part_value cells p)
@@ -125,10 +120,10 @@ module _ (base : Code) (i : Item) (ls : List Left) where
     pub sum_goes : (sum : List Part) → All (IsClosedPart (length cells)) sum → AsksSo [] (item_ask w sum) → Lasts (sum_value cells (pos 0) sum) → From [] (summed cells sum more)
     sum_goes [] closed so lasts = lasts [] (pos 0) refl so
     sum_goes (part.Number n ∷ ps) closed so lasts =
-        subst (From []) (first_same (part.Number n) ps (first_of_all (IsClosedPart (length cells)) (part.Number n) ps closed))
-        (rest_goes ps (pos n) [] (others_of_all (IsClosedPart (length cells)) (part.Number n) ps closed) so (λ xs z same. lasts xs z (ap (value_by cells ps) (first_is (part.Number n) (first_of_all (IsClosedPart (length cells)) (part.Number n) ps closed)) ∙ same)))
+        subst (From []) (first_same (part.Number n) ps (All-head (IsClosedPart (length cells)) (part.Number n) ps closed))
+        (rest_goes ps (pos n) [] (All-tail (IsClosedPart (length cells)) (part.Number n) ps closed) so (λ xs z same. lasts xs z (ap (value_by cells ps) (first_is (part.Number n) (All-head (IsClosedPart (length cells)) (part.Number n) ps closed)) ∙ same)))
     sum_goes (part.Global k ∷ ps) closed so lasts =
         let u : ℤ = held cells k in
-        subst (From []) (first_same (part.Global k) ps (first_of_all (IsClosedPart (length cells)) (part.Global k) ps closed))
-        (reads k [] (item_ask w (part.Global k ∷ ps)) (before (sum_events cells u ps) [] (going_on (sum_value cells u ps) more)) (first_of_all (IsClosedPart (length cells)) (part.Global k) ps closed) so refl
-        (rest_goes ps u (v.Num u ∷ []) (others_of_all (IsClosedPart (length cells)) (part.Global k) ps closed) (next_so [] (item_ask w (part.Global k ∷ ps)) (v.Num u) so) (λ xs z same. lasts xs z (ap (value_by cells ps) (first_is (part.Global k) (first_of_all (IsClosedPart (length cells)) (part.Global k) ps closed)) ∙ same))))
+        subst (From []) (first_same (part.Global k) ps (All-head (IsClosedPart (length cells)) (part.Global k) ps closed))
+        (reads k [] (item_ask w (part.Global k ∷ ps)) (before (sum_events cells u ps) [] (going_on (sum_value cells u ps) more)) (All-head (IsClosedPart (length cells)) (part.Global k) ps closed) so refl
+        (rest_goes ps u (v.Num u ∷ []) (All-tail (IsClosedPart (length cells)) (part.Global k) ps closed) (next_so [] (item_ask w (part.Global k ∷ ps)) (v.Num u) so) (λ xs z same. lasts xs z (ap (value_by cells ps) (first_is (part.Global k) (All-head (IsClosedPart (length cells)) (part.Global k) ps closed)) ∙ same))))

@@ -1,5 +1,5 @@
 -- One more part of a sum, and one more act.
-use Rattle.std.proofs.Common.{rules, ◌≡◌, ℕ, ◌+◌, ◌<◌, List, [], ◌∷◌, ◌++◌, length, get_or, take, drop, Option, Some, None, refl, sym, ap, ◌∙◌, arith, append-nil, append_assoc, add-one, drop-cons, SFits, w32}
+use Rattle.std.proofs.Common.{rules, ◌≡◌, ℕ, ◌+◌, ◌<◌, List, [], ◌∷◌, ◌++◌, length, get_or, take, drop, Option, Some, refl, sym, ap, ◌∙◌, arith, append-nil, append_assoc, add-one, drop-cons, SFits, w32}
 use Rattle.std.specs.Prelude.{ℤ, pos, ◌+ℤ◌}
 use Rattle.std.proofs.lemmas.Int.{ints}
 use Rattle.ca_model.specs.declared.values.Event.{Event}
@@ -10,16 +10,11 @@ use Rattle.ca_model.specs.declared.sums.SumAct.TheVariants as sum_act
 use Rattle.std.proofs.Math.Seq.{take-append_seam}
 use Rattle.ca_model.specs.Machine.{by}
 use Rattle.ca_model.specs.FirstForm.{sum_of}
-use Rattle.ca_cmd.specs.Running.{the_fault, part_value, part_events, sum_value, sum_events, Traced, before, going_on, act_event, act_output, cells_after, acts_run}
+use Rattle.ca_cmd.proofs.SumRuns.{value_by, events_by}
+use Rattle.ca_cmd.specs.Running.{part_value, part_events, sum_value, sum_events, Traced, before, going_on, act_event, act_output, cells_after, acts_run}
 
 pub fits_in : (n : ℤ) → SFits w32 n → in32 n ≡ Some n
 fits_in n fits = grind (arith, ints)
-
-abbrev sum_value_by : List ℤ → List Part → Option ℤ → Option ℤ
-sum_value_by cells more o = elim o [ None ↦ None | Some y ↦ sum_value cells y more ]
-
-abbrev sum_events_by : List ℤ → Part → List Part → Option ℤ → List Event
-sum_events_by cells x more o = part_events cells x ++ elim o [ None ↦ the_fault ∷ [] | Some y ↦ sum_events cells y more ]
 
 module _ (cells : List ℤ) (z v y : ℤ) (sum : List Part) (i : ℕ) (d : Part) (here : i < length sum) (is : v ≡ part_value cells (get_or sum i d)) (next : y ≡ z +ℤ v) (fits : SFits w32 (z +ℤ v)) where
   rest : drop i sum ≡ get_or sum i d ∷ drop (i + 1) sum
@@ -29,12 +24,12 @@ module _ (cells : List ℤ) (z v y : ℤ) (sum : List Part) (i : ℕ) (d : Part)
   added = ap (λ u. in32 (z +ℤ u)) (sym is) ∙ (fits_in (z +ℤ v) fits ∙ ap Some (sym next))
 
   pub value_next : sum_value cells z (drop i sum) ≡ sum_value cells y (drop (i + 1) sum)
-  value_next = ap (sum_value cells z) rest ∙ ap (sum_value_by cells (drop (i + 1) sum)) added
+  value_next = ap (sum_value cells z) rest ∙ ap (value_by cells (drop (i + 1) sum)) added
 
   pub events_next : (old new : List Event) → new ≡ old ++ part_events cells (get_or sum i d) → new ++ sum_events cells y (drop (i + 1) sum) ≡ old ++ sum_events cells z (drop i sum)
   events_next old new told =
       let all : sum_events cells z (drop i sum) ≡ part_events cells (get_or sum i d) ++ sum_events cells y (drop (i + 1) sum) =
-      ap (sum_events cells z) rest ∙ ap (sum_events_by cells (get_or sum i d) (drop (i + 1) sum)) added in
+      ap (sum_events cells z) rest ∙ ap (λ o. part_events cells (get_or sum i d) ++ events_by cells (drop (i + 1) sum) o) added in
       ap (λ es. es ++ sum_events cells y (drop (i + 1) sum)) told ∙ (append_assoc old (part_events cells (get_or sum i d)) (sum_events cells y (drop (i + 1) sum)) ∙ ap (λ es. old ++ es) (sym all))
 
 -- what comes before what comes before

@@ -5,7 +5,7 @@ use Rattle.ca_model.specs.Codes.{Typed}
 use Rattle.ca_model.specs.SourceRuns.{no_plan}
 use Rattle.ca_model.specs.Plans.{Fits, IsSound}
 
-in_none : {A : Type 0} (y : A) → Contains [] y → ⊥
+pub in_none : {A : Type 0} (y : A) → Contains [] y → ⊥
 in_none y (k, lt, is) = omega (arith, lt)
 
 pub no_plan_fits : (p : Typed) → Fits p no_plan

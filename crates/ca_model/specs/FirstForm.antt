@@ -122,7 +122,7 @@ abbrev pub sum_of : SumAct → List Part
 sum_of (sum_act.Set k sum) = sum
 sum_of (sum_act.Print sum) = sum
 
--- the limits of the form
+-- there are as many globals as names, the names differ, and the limits of the form
 pub record IsWithin (names : List (List ℕ)) (f : Sums) : Type 0 where
   pub count : f.globals ≡ length names
   pub differ : AreNamesAfter [] names

@@ -10,7 +10,7 @@ is_digit c = nat_le 48 c && nat_le c 57
 abbrev pub is_word_byte : ℕ → Bool
 is_word_byte c = (nat_le 97 c && nat_le c 122) || (nat_le 65 c && nat_le c 90) || is_digit c || (c == 95)
 
--- the keywords (C11 6.4.1), in order
+-- the keywords (C11 6.4.1) by the alphabet, in groups that are named by their last one
 abbrev pub keywords_to_double : List (List ℕ)
 keywords_to_double = codes "auto" ∷ codes "break" ∷ codes "case" ∷ codes "char" ∷ codes "const" ∷ codes "continue" ∷ codes "default" ∷ codes "do" ∷ codes "double" ∷ []
 
@@ -26,10 +26,11 @@ keywords_to_while = codes "switch" ∷ codes "typedef" ∷ codes "union" ∷ cod
 abbrev pub keywords_with_underscore : List (List ℕ)
 keywords_with_underscore = codes "_Alignas" ∷ codes "_Alignof" ∷ codes "_Atomic" ∷ codes "_Bool" ∷ codes "_Complex" ∷ codes "_Generic" ∷ codes "_Imaginary" ∷ codes "_Noreturn" ∷ codes "_Static_assert" ∷ codes "_Thread_local" ∷ []
 
--- the words of the libraries (C11 7, POSIX `pthread.h`), and `main`
+-- names of the libraries (C11 7, POSIX `pthread.h`)
 abbrev pub library_words : List (List ℕ)
 library_words = codes "NULL" ∷ codes "PTHREAD_MUTEX_INITIALIZER" ∷ codes "pthread_t" ∷ codes "pthread_mutex_t" ∷ codes "malloc" ∷ codes "free" ∷ codes "assert" ∷ codes "printf" ∷ []
 
+-- the calls of threads and mutexes (POSIX `pthread.h`), and `main`
 abbrev pub thread_words : List (List ℕ)
 thread_words = codes "pthread_mutex_lock" ∷ codes "pthread_mutex_unlock" ∷ codes "pthread_create" ∷ codes "pthread_join" ∷ codes "main" ∷ []
 

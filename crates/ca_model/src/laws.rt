@@ -92,8 +92,9 @@ pub fn other_items_destroy_nothing(a: &Act)
     ensures entries { AnswersAlike }
 {}
 
-/// A list without saves and retries is its own projection; so projecting twice is projecting once.
+/// A projection has neither saves nor retries. A list without them is its own projection; so projecting twice is projecting once.
 pub fn projections_have_no_marks()
+    ensures none { (es : List Event) → HasNoMarks (projection es) }
     ensures unmarked { (es : List Event) → HasNoMarks es → projection es ≡ es }
     ensures once { (es : List Event) → projection (projection es) ≡ projection es }
 {}

@@ -7,6 +7,8 @@ use std::test::Fail;
 
 const EMPTY_MAIN: &[u8] = b"int main(void){ return 0; }";
 
+const PRINT_SUM: &[u8] = b"int g; int main(void){ g = 2 + 3; printf(\"%d\\n\", g); return 0; }";
+
 const REPORT: &str = "trace 1\n0 end\nending finished\noutput 0\n";
 
 const NOT_BUILT: &str = "conair: a.c: not built yet\n";
@@ -179,7 +181,7 @@ fn print_sum(rt: HostRuntime) -> Result<(), Fail> {
     reports(
         &rt,
         rt.alloc(),
-        b"int g; int main(void){ g = 2 + 3; printf(\"%d\\n\", g); return 0; }",
+        PRINT_SUM,
         0,
         "trace 4\n0 write @0.0 5\n0 read @0.0 5\n0 print 350a\n0 end\nending finished\noutput 2\n5\n",
     )
@@ -382,6 +384,16 @@ fn outside_fails(rt: HostRuntime) -> Result<(), Fail> {
         err: "",
     };
     check(&rt, alloc, failing(&[2], &[5], &[1]), whole)?;
+    let without_output = Wanted {
+        status: 7,
+        out: "trace 4\n0 write @0.0 5\n0 read @0.0 5\n0 print 350a\n0 end\nending finished\noutput 2\n",
+        err: "",
+    };
+    let printing = Given {
+        source: PRINT_SUM,
+        ..failing(&[], &[8], &[])
+    };
+    check(&rt, alloc, printing, without_output)?;
     let untold = Wanted {
         status: 7,
         out: "",

@@ -1,5 +1,5 @@
 use Rattle.std.proofs.Common.{map, ◌≡◌, ◌∙◌, sym, length, arith, true, false}
-use Rattle.ca_cmd.proofs.Loops.{globals_none, globals_done, globals_turn_full, globals_turn_more, globals_taken, globals_open, few_more, one_longer, names_grow}
+use Rattle.ca_cmd.proofs.Loops.{globals_none, globals_done, globals_turn_full, globals_turn_more, globals_unfree, globals_open, few_more, one_longer, names_grow}
 use Rattle.ca_cmd.specs.Reading.{is_free}
 use Rattle.ca_cmd.proofs.reading.globals.Goals as goal
 
@@ -19,7 +19,7 @@ pub returns-then-not-is_free-clause-found : goal.returns-then-not-is_free-clause
 returns-then-not-is_free-clause-found c =
     let told = rw c.deref.ensures.value at c.is_free.ensures in
     let free : is_free (map (λ v. v.items) c.names.names.items) c.in-Some.word.now ≡ false = cc in
-    sym (globals_taken _ _ _ c.in-Some.word.now c.in-Some.more.now (map (λ v. v.items) c.names.names.items) (sym c.in-Some.ensures) (sym (rw c.as_slice.ensures at c.if-eq.ensures)) free) ∙ c.names.invariant.whole
+    sym (globals_unfree _ _ _ c.in-Some.word.now c.in-Some.more.now (map (λ v. v.items) c.names.names.items) (sym c.in-Some.ensures) (sym (rw c.as_slice.ensures at c.if-eq.ensures)) free) ∙ c.names.invariant.whole
 
 pub returns-in_default-after_token-clause-found : goal.returns-in_default-after_token-clause-found
 returns-in_default-after_token-clause-found c =

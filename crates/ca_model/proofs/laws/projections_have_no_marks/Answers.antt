@@ -1,5 +1,8 @@
-use Rattle.ca_model.proofs.Projected.{projection_unmarked, projection_once}
+use Rattle.ca_model.proofs.Projected.{projected_unmarked, projection_unmarked, projection_once}
 use Rattle.ca_model.proofs.laws.projections_have_no_marks.Goals as goal
+
+pub returns-clause-none : goal.returns-clause-none
+returns-clause-none c = projected_unmarked
 
 pub returns-clause-unmarked : goal.returns-clause-unmarked
 returns-clause-unmarked c = projection_unmarked
