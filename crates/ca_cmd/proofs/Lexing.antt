@@ -9,6 +9,7 @@ use Rattle.ca_tree.specs.declared.text.Pos.{Pos}
 use Rattle.ca_tree.specs.Places.{after}
 use Rattle.ca_model.specs.Words.{is_digit, is_word_byte, IsWord}
 use Rattle.ca_model.specs.FirstForm.{is_blank, AreBlanks, AreDigits, goes_on, IsLongest, Token, Spells, IsNumeral, value_after}
+use Rattle.ca_model.proofs.Law.{one_of}
 use Rattle.ca_cmd.specs.Reading.{◌>>=◌, after_blanks, after_front, is_apart, if_apart, after_token, digits, after_digits, number_front, numeral_front, if_numeral_apart, numeral_at, word_bytes, after_word, word_front, word_at, after_tokens, is_empty}
 
 -- the text is blanks, this token, and the rest, wherever it stands
@@ -51,9 +52,6 @@ reads_split (u ∷ us) vs text rest r = let more = reads_split us vs r.0 rest r.
 pub bind_some : {A B : Type 0} (o : Option A) (f : A → Option B) (y : B) → (o >>= f) ≡ Some y → (x : A) × (o ≡ Some x) × (f x ≡ Some y)
 bind_some (Some a) f y h = (a, refl, h)
 bind_some None f y h = absurd cc
-
-some_is : {A : Type 0} (x y : A) → Some x ≡ Some y → x ≡ y
-some_is x y h = cc
 
 pub chosen : {A : Type 0} (b : Bool) (x y : A) → (if b then Some x else None) ≡ Some y → (b ≡ true) × (x ≡ y)
 chosen true x y h = (refl, cc)
@@ -265,7 +263,7 @@ zero_numeral = ((refl, tt), (λ _. refl), refl, lit< tt)
 numeral_step : (c : ℕ) (cs : List ℕ) (b d : Bool) (n : ℕ) (rest : List ℕ) → (c == 48) ≡ b → is_digit c ≡ d → numeral_front (c ∷ cs) ≡ Some (n, rest) → Found (c ∷ cs) n rest
 numeral_step c cs true d n rest e f h =
     let now = rw e at h in
-    let pair = some_is (0, cs) (n, rest) now in
+    let pair = one_of (0, cs) (n, rest) now in
     let zero : 0 ≡ n = ap (λ (p : ℕ × List ℕ). p.0) pair in
     let left : cs ≡ rest = ap (λ (p : ℕ × List ℕ). p.1) pair in
     let is = eqb-true c 48 e in
@@ -408,7 +406,7 @@ other_word w u text rest word other differ f = by_option (after_token u text) re
         let one = word_taken w text rest word f in
         let two = word_taken u text r other (token_found u text r e) in
         let same : Some (w, rest) ≡ Some (u, r) = sym one ∙ two in
-        absurd (differ (ap (λ (p : List ℕ × List ℕ). p.0) (some_is (w, rest) (u, r) same)))
+        absurd (differ (ap (λ (p : List ℕ × List ℕ). p.0) (one_of (w, rest) (u, r) same)))
 
 -- a token that begins with another byte
 pub other_front : (c d : ℕ) (cs ds text rest : List ℕ) → is_blank d ≡ false → (d == c) ≡ false → Follows (d ∷ ds) text rest → after_token (c ∷ cs) text ≡ None

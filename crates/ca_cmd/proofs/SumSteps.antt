@@ -1,11 +1,9 @@
 -- One event of the only thread, as a step of the model.
-use Rattle.std.proofs.Common.{rules, arith, ◌≡◌, ℕ, ◌<◌, true, false, List, [], ◌∷◌, ◌++◌, Some, None, refl, sym, ap, ◌∙◌, subst, append-nil, append_assoc}
+use Rattle.std.proofs.Common.{arith, ◌≡◌, ℕ, ◌<◌, true, false, List, [], ◌∷◌, ◌++◌, Some, None, refl, sym, ap, ◌∙◌, subst, append-nil, append_assoc}
 use Rattle.std.specs.Prelude.{ℤ, pos, ◌&&◌, IsSome}
-use Rattle.std.specs.Str.{bytes_eq}
 use Rattle.std.specs.Ordering.{int_eq}
 use Rattle.std.specs.FinSet as set
 use Rattle.std.proofs.lemmas.Bool.{eq-eqb}
-use Rattle.std.proofs.lemmas.Cmp.{int_eq_equiv}
 use Rattle.ca_model.specs.declared.values.Value.{Value}
 use Rattle.ca_model.specs.declared.values.Value.TheVariants as v
 use Rattle.ca_model.specs.declared.values.FaultKind.TheVariants as fault
@@ -22,13 +20,8 @@ use Rattle.ca_model.specs.Machine.{by, Rules, State, Step, Run, created}
 use Rattle.ca_model.specs.Source.{source, plain}
 use Rattle.ca_model.specs.Opening.{EndsAs}
 use Rattle.ca_model.specs.SourceRuns.{IsOver}
+use Rattle.ca_model.proofs.Entries.{int_self, text_self}
 use Rattle.ca_cmd.specs.Running.{cell_of, Traced, before, failed, finished, the_fault}
-
-int_same : (z : ℤ) → int_eq z z ≡ true
-int_same z = search (int_eq_equiv, rules)
-
-bytes_same : (text : List ℕ) → bytes_eq text text ≡ true
-bytes_same text = search rules
 
 -- the run is open, with one thread
 pub record IsOpen (h : Shared) : Type 0 where
@@ -115,14 +108,14 @@ module _ (base : Code) where
         let w : Want = Writes (v.Addr (cell_of k)) (pos 0) (v.Num n) None in
         let s : Stand = stand_at code w f [] in
         let own : after_entry s (event.Write (cell_of k) (v.Num n)) ≡ Some (answered code f null ∷ []) =
-        ap (λ b. going_on s (when ((b && true) && int_eq n n) null)) (eq-eqb k k refl) ∙ ap (λ b. going_on s (when b null)) (int_same n) in
+        ap (λ b. going_on s (when ((b && true) && int_eq n n) null)) (eq-eqb k k refl) ∙ ap (λ b. going_on s (when b null)) (int_self n) in
         goes_by w (event.Write (cell_of k) (v.Num n)) (answered code f null ∷ []) [] does is tt own some tt (sym (append-nil h.output)) goes
 
     pub goes_print : (text : List ℕ) (does : Traced) → wanted (begun code f) ≡ Prints text
         → Goes (effect h 0 (event.Print text)) (answered code f null ∷ []) does → Goes h (f ∷ []) (before (by 0 (event.Print text) ∷ []) text does)
     goes_print text does is goes =
         let s : Stand = stand_at code (Prints text) f [] in
-        let own : after_entry s (event.Print text) ≡ Some (answered code f null ∷ []) = ap (λ b. going_on s (when b null)) (bytes_same text) in
+        let own : after_entry s (event.Print text) ≡ Some (answered code f null ∷ []) = ap (λ b. going_on s (when b null)) (text_self text) in
         goes_by (Prints text) (event.Print text) (answered code f null ∷ []) text does is tt own tt tt refl goes
 
     pub goes_end : (x : Value) → wanted (begun code f) ≡ Returns x → Goes h (f ∷ []) finished

@@ -1,12 +1,9 @@
 -- The plan without a save fits every source, and is sound.
 use Rattle.std.proofs.Common.{arith, []}
-use Rattle.std.specs.Prelude.{Contains}
+use Rattle.ca_model.proofs.Members.{in_none}
 use Rattle.ca_model.specs.Codes.{Typed}
 use Rattle.ca_model.specs.SourceRuns.{no_plan}
 use Rattle.ca_model.specs.Plans.{Fits, IsSound}
-
-pub in_none : {A : Type 0} (y : A) → Contains [] y → ⊥
-in_none y (k, lt, is) = omega (arith, lt)
 
 pub no_plan_fits : (p : Typed) → Fits p no_plan
 no_plan_fits p = record {

@@ -30,7 +30,7 @@ pub data Load : Type 0 where
   Exceeded : Load
   Unloaded : Load
 
--- what decides the answer; the first that holds does
+-- what decides the answer
 pub data Cause : Type 0 where
   Misworded : Cause
   Unread : (name : List ℕ) → Cause

@@ -1,7 +1,7 @@
 -- Words for laws.
 use Rattle.std.specs.Prelude.{◌≡◌, ◌<◌, List, [], ◌++◌, length}
 use Rattle.ca_model.specs.declared.values.Value.{Value}
-use Rattle.ca_model.specs.Asks.{Got, Is, Wants, No_result, Asks}
+use Rattle.ca_model.specs.Asks.{Want, Got, Is, Wants, No_result, Asks}
 
 -- what more answers change: one that is done has them over too, one that wanted an event takes some, and `arith` stays
 abbrev pub Fewer : {A : Type 0} → Got A → List Value → Type 0
@@ -33,3 +33,12 @@ abbrev pub Stands : {A : Type 0} → Got A → Type 0
 Stands (Is x rest) = ⊥
 Stands (Wants w) = Unit {0}
 Stands No_result = Unit {0}
+
+-- a part whose wants are all of one kind
+abbrev pub OnWants : {A : Type 0} → (Want → Type 0) → Got A → Type 0
+OnWants P (Is x rest) = Unit {0}
+OnWants P (Wants w) = P w
+OnWants P No_result = Unit {0}
+
+abbrev pub AsksOnly : {A : Type 0} → (Want → Type 0) → Asks A → Type 0
+AsksOnly P p = (xs : List Value) → OnWants P (p xs)

@@ -8,11 +8,13 @@ pub mod Frames
 pub mod Private
 pub mod Shared
 pub mod Machine
+pub mod Kept
 pub mod Source
 pub mod Hardened
 pub mod Codes
 pub mod Opening
 pub mod SourceRuns
+pub mod Unhardened
 pub mod Projection
 pub mod Laws
 pub mod Accesses
@@ -25,8 +27,11 @@ pub mod Activations
 pub mod Matched
 pub mod Schedules
 pub mod Runner
+pub mod WellFormed
+pub mod Waits
+pub mod Begun
+pub mod Follows
 pub mod Numbering
-pub mod Example
 pub mod Traces
 pub mod Reports
 pub mod Words

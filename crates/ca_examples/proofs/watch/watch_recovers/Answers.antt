@@ -1,0 +1,23 @@
+use Rattle.ca_examples.proofs.Formed.{watch_is_formed}
+use Rattle.ca_examples.proofs.WatchRuns.{ends_the_same, projects}
+use Rattle.ca_examples.proofs.WatchPlan.{is_plan, is_sound}
+use Rattle.ca_examples.proofs.WatchRunner.{the_run}
+use Rattle.ca_examples.proofs.watch.watch_recovers.Goals as goal
+
+pub returns-clause-formed : goal.returns-clause-formed
+returns-clause-formed c = watch_is_formed
+
+pub returns-clause-planned : goal.returns-clause-planned
+returns-clause-planned c = is_plan
+
+pub returns-clause-sound : goal.returns-clause-sound
+returns-clause-sound c = is_sound
+
+pub returns-clause-hardened : goal.returns-clause-hardened
+returns-clause-hardened c = ends_the_same
+
+pub returns-clause-runner : goal.returns-clause-runner
+returns-clause-runner c = the_run
+
+pub returns-clause-projected : goal.returns-clause-projected
+returns-clause-projected c = projects

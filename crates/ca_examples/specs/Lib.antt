@@ -1,0 +1,9 @@
+pub mod Erased
+pub mod Watch
+pub mod LoopPoints
+pub mod NullPointer
+pub mod GivenBlock
+pub mod OpposedLocks
+pub mod SelfLock
+pub mod SmallCases
+pub mod ThroughCaller
