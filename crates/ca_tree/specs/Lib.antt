@@ -1,2 +1,4 @@
 pub mod formers
 pub mod Places
+pub mod Tokens
+pub mod Lexed

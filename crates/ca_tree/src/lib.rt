@@ -5,8 +5,10 @@ pub mod listed;
 mod no_memory;
 mod numbers;
 mod text;
+mod token;
 
 pub use listed::Listed;
 pub use no_memory::NoMemory;
 pub use numbers::{FunId, GlobalId, ItemId, MutexId, SiteId, StructId, VarId};
 pub use text::{Pos, Text};
+pub use token::{LexFault, LexKind, Mark, Token, Word};

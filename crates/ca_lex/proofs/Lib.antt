@@ -1,0 +1,17 @@
+pub mod Turns
+pub mod OneForm
+pub mod OneSkip
+pub mod OneHead
+pub mod OneLexing
+pub mod OwnWords
+pub mod Cuts
+pub mod Comments
+pub mod Bare
+pub mod Includes
+pub mod Longest
+pub mod FirstBytes
+pub mod Units
+pub mod ClosedStrings
+pub mod SomeForm
+pub mod SomeSkip
+pub mod SomeLexing
