@@ -28,9 +28,6 @@ form_first f (c ∷ cs) rest text more b is e h =
     let k = form_begins f c cs is in
     (ap beginning (sym same) ∙ k.0, ap is_blank (sym same) ∙ k.1)
 
-other_bytes : (text bs cs : List ℕ) (b c : ℕ) → text ≡ b ∷ bs → text ≡ c ∷ cs → (b ≡ c → ⊥) → ⊥
-other_bytes text bs cs b c e f differ = differ (ap first (sym e ∙ f))
-
 -- no number at a byte that begins another form
 no_number : (n : ℕ) (u rest text more : List ℕ) (b : ℕ) → IsLongest text (A_number n) u rest → text ≡ b ∷ more → (beginning b ≡ Of_number → ⊥) → ⊥
 no_number n u rest text more b is e other = other (form_first (A_number n) u rest text more b is.form is.joined e).0
