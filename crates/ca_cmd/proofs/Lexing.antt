@@ -382,10 +382,6 @@ word_taken (c ∷ cs) text rest is f =
     let ends = longest_ends c cs rest is.0 f.longest in
     rw (skipped (c ∷ cs) text rest f (word_solid c is.0), is.0, is.1, word_bytes_taken cs rest is.2 ends, after_word_taken cs rest is.2 ends) refl
 
-pub word_is_solid : (w : List ℕ) → IsWord w → Solid w
-word_is_solid [] is = absurd is
-word_is_solid (c ∷ cs) is = word_solid c is.0
-
 -- a word is no number
 pub no_numeral : (w text rest : List ℕ) → IsWord w → Follows w text rest → numeral_at text ≡ None
 unfolding numeral_at

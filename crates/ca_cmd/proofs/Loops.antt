@@ -6,10 +6,6 @@ use Rattle.ca_model.specs.declared.sums.Part.{Part}
 use Rattle.ca_model.specs.declared.sums.SumAct.{SumAct}
 use Rattle.ca_cmd.specs.Reading.{◌>>=◌, after_token, part_at, put_first, prepend, sum_at, act_at, acts_at, is_free, declared_at, globals_at}
 
-pub prepend_nothing : {A : Type 0} (o : Option (List A × List ℕ)) → prepend [] o ≡ o
-prepend_nothing None = refl
-prepend_nothing (Some found) = refl
-
 prepend_put : {A : Type 0} (xs : List A) (x : A) (o : Option (List A × List ℕ)) → prepend xs (o >>= put_first x) ≡ prepend (xs ++ x ∷ []) o
 prepend_put xs x None = refl
 prepend_put xs x (Some found) = ap (λ (ys : List _). Some (ys, found.1)) (sym (append_assoc xs (x ∷ []) found.0))

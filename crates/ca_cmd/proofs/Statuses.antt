@@ -26,9 +26,6 @@ told_long None n held is same = absurd cc
 told_long (Some xs) n held is same = let one : xs ≡ held = cc in subst (λ (b : List ℕ). n < length b) one is
 
 -- the status of a run that has ended
-pub ended_status : (end : Ending) (n : ℕ) → HasEnded end → n ≡ ending_status end → (n ≡ 0) ⊎ (n ≡ 1)
-ended_status end n (inl finished) is = inl (is ∙ ap ending_status finished)
-ended_status end n (inr fault) is = inr (is ∙ ap ending_status fault)
 
 module _ (words : List (List ℕ)) (files : LoadPort) (out err : PutPort) where
   -- a run that is reported with status 0 has finished

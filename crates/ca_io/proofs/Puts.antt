@@ -14,9 +14,6 @@ pub appends_nothing : (o : Option (List ℕ)) → Appends o o []
 appends_nothing None = tt
 appends_nothing (Some xs) = sym (append-nil xs)
 
-pub part_nothing : (a : Option (List ℕ)) (text : List ℕ) → AppendsPart a a text
-part_nothing a text = ([], text, refl, appends_nothing a)
-
 pub part_whole : (a b : Option (List ℕ)) (text : List ℕ) → Appends a b text → AppendsPart a b text
 part_whole a b text p = (text, [], sym (append-nil text), p)
 

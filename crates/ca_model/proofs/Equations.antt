@@ -42,10 +42,6 @@ part_binary o a b = part_out (e.Binary o a b) _ (e.outs-Binary o a b)
 pub spot_plain : (b : Exp) (f : ℕ) (t : Bool) → spot (roll-Place (record { base = b; index = None; field = f; through = t })) ≡ place_step (record { base = part b; index = None; field = f; through = t })
 spot_plain b f t = spot_roll (record { base = b; index = None; field = f; through = t })
 
-pub spot_indexed : (b i : Exp) (n f : ℕ) (t : Bool)
-    → spot (roll-Place (record { base = b; index = Some (i, n); field = f; through = t })) ≡ place_step (record { base = part b; index = Some (part i, n); field = f; through = t })
-spot_indexed b i n f t = spot_roll (record { base = b; index = Some (i, n); field = f; through = t })
-
 -- accesses of expressions
 abbrev pub by_accesses : Exp-F Exp Place → List Access
 by_accesses x = exp_accesses (map-Exp Exp Place (List Access) (Bool × List Access) accesses accesses_to x)

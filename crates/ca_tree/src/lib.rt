@@ -1,4 +1,5 @@
-//! Texts, places in a text, the numbers of the things of a source, and the answer for want of memory.
+//! Texts, places in a text, tokens, the tree of a program as it is read, the numbers of the things of a source, and the
+//! answer for want of memory.
 #![tactic(auto)]
 
 pub mod listed;
@@ -6,6 +7,7 @@ mod no_memory;
 mod numbers;
 mod text;
 mod token;
+pub mod tree;
 
 pub use listed::Listed;
 pub use no_memory::NoMemory;
