@@ -1,0 +1,17 @@
+pub mod Loose
+pub mod Depths
+pub mod Theory
+pub mod OneOutcome
+pub mod LocalReading
+pub mod WeakerLimits
+pub mod Took
+pub mod Open
+pub mod Steps
+pub mod Through
+pub mod Broken
+pub mod Ending
+pub mod Exact
+pub mod Spreading
+pub mod OneExpression
+pub mod OneFault
+pub mod EveryTree

@@ -1,0 +1,35 @@
+-- Laws of the grammar.
+use Rattle.std.specs.Prelude.{◌≡◌, ◌≤◌, ℕ, true, List}
+use Rattle.ca_tree.specs.declared.token.Token.{Token}
+use Rattle.ca_tree.specs.declared.tree.Exp.{Exp}
+use Rattle.ca_grammar.specs.declared.faults.ReadFault.{ReadFault}
+use Rattle.ca_grammar.specs.declared.operand.Operand.{Operand}
+use Rattle.ca_grammar.specs.Limits.{Rule, Allowed, the_limits, kept}
+use Rattle.ca_grammar.specs.Texts.{IsExpression}
+use Rattle.ca_grammar.specs.Trees.{depth, has_names, Spelling}
+use Rattle.ca_grammar.specs.Faults.{IsFault}
+
+-- what one allows the other allows too
+abbrev pub AllowsMore : Allowed → Allowed → Type 0
+AllowsMore allowed more = (r : Rule) (n : ℕ) (ts : List Token) → allowed r n ts ≡ true → more r n ts ≡ true
+
+-- the limits are kept
+abbrev pub all_kept : Allowed
+all_kept = kept the_limits 0
+
+abbrev pub OneExpression : Type 0
+OneExpression = (allowed : Allowed) (ts : List Token) (a b : Operand) → IsExpression allowed a ts → IsExpression allowed b ts → a ≡ b
+
+abbrev pub EachIsSpelled : Type 0
+EachIsSpelled = (a : Exp) → depth a ≤ 64 → has_names a ≡ true → Spelling a
+
+-- texts in which more may be counted are texts still
+abbrev pub Spreads : (Allowed → List Token → Type 0) → Type 0
+Spreads texts = (allowed more : Allowed) (ts : List Token) → AllowsMore allowed more → texts allowed ts → texts more ts
+
+-- tokens that are a text have no fault, and others at most one
+abbrev pub NoFault : Type 1
+NoFault = (texts : Allowed → List Token → Type 0) → Spreads texts → (ts : List Token) (f : ReadFault) → texts all_kept ts → IsFault texts ts f → ⊥
+
+abbrev pub OneFault : Type 1
+OneFault = (texts : Allowed → List Token → Type 0) → Spreads texts → (ts : List Token) (f g : ReadFault) → IsFault texts ts f → IsFault texts ts g → f ≡ g

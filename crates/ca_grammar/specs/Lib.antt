@@ -1,0 +1,11 @@
+pub mod Words
+pub mod Limits
+pub mod Expressions
+pub mod Phrases
+pub mod Statements
+pub mod Declarations
+pub mod Texts
+pub mod Trees
+pub mod Faults
+pub mod Laws
+pub mod Plan

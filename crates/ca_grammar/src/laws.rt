@@ -1,0 +1,25 @@
+//! Laws of the grammar.
+
+ghost use Rattle.std.specs.Prelude.{◌≡◌, List};
+ghost use Rattle.ca_tree.specs.declared.token.Token.{Token};
+ghost use Rattle.ca_grammar.specs.declared.faults.ReadFault.{ReadFault};
+ghost use Rattle.ca_grammar.specs.Texts.{AnExpression};
+ghost use Rattle.ca_grammar.specs.Faults.{IsFault};
+ghost use Rattle.ca_grammar.specs.Laws.{OneExpression, EachIsSpelled, all_kept};
+
+/// A list of tokens, the end last, spells at most one expression, whatever is allowed to be counted in it.
+pub fn tokens_spell_one_expression()
+    ensures { OneExpression }
+{}
+
+/// An expression that is at most 64 deep by its tree, and whose names are names of at most 63 bytes, is spelled by some tokens
+/// within the limits.
+pub fn each_expression_is_spelled()
+    ensures { EachIsSpelled }
+{}
+
+/// Tokens that are an expression within the limits have no fault, and others at most one.
+pub fn an_expression_has_one_fault()
+    ensures none { (ts : List Token) (f : ReadFault) → AnExpression all_kept ts → IsFault AnExpression ts f → ⊥ }
+    ensures one { (ts : List Token) (f g : ReadFault) → IsFault AnExpression ts f → IsFault AnExpression ts g → f ≡ g }
+{}

@@ -1,0 +1,12 @@
+//! What the tokens of a program are: the grammar, its limits, and the fault of a text that is no program.
+#![tactic(auto)]
+
+mod faults;
+mod laws;
+mod operand;
+
+pub use faults::{Count, Counted, LeftOut, ReadFault, ReadKind};
+pub use laws::{
+    an_expression_has_one_fault, each_expression_is_spelled, tokens_spell_one_expression,
+};
+pub use operand::Operand;
