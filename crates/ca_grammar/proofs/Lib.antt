@@ -15,3 +15,4 @@ pub mod Spreading
 pub mod OneExpression
 pub mod OneFault
 pub mod EveryTree
+pub mod LexedEnds

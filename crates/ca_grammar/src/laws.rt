@@ -1,9 +1,10 @@
 //! Laws of the grammar.
 
-ghost use Rattle.std.specs.Prelude.{◌≡◌, List};
+ghost use Rattle.std.specs.Prelude.{◌≡◌, ℕ, List};
 ghost use Rattle.ca_tree.specs.declared.token.Token.{Token};
+ghost use Rattle.ca_tree.specs.Lexed.{HasTokens};
 ghost use Rattle.ca_grammar.specs.declared.faults.ReadFault.{ReadFault};
-ghost use Rattle.ca_grammar.specs.Texts.{AnExpression};
+ghost use Rattle.ca_grammar.specs.Texts.{AnExpression, EndsOnce};
 ghost use Rattle.ca_grammar.specs.Faults.{IsFault};
 ghost use Rattle.ca_grammar.specs.Laws.{OneExpression, EachIsSpelled, all_kept};
 
@@ -22,4 +23,9 @@ pub fn each_expression_is_spelled()
 pub fn an_expression_has_one_fault()
     ensures none { (ts : List Token) (f : ReadFault) → AnExpression all_kept ts → IsFault AnExpression ts f → ⊥ }
     ensures one { (ts : List Token) (f g : ReadFault) → IsFault AnExpression ts f → IsFault AnExpression ts g → f ≡ g }
+{}
+
+/// The tokens of a text have their end last, and only there.
+pub fn the_end_stands_last()
+    ensures { (text : List ℕ) (ts : List Token) → HasTokens text ts → EndsOnce ts }
 {}

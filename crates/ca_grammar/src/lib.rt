@@ -7,6 +7,7 @@ mod operand;
 
 pub use faults::{Count, Counted, LeftOut, ReadFault, ReadKind};
 pub use laws::{
-    an_expression_has_one_fault, each_expression_is_spelled, tokens_spell_one_expression,
+    an_expression_has_one_fault, each_expression_is_spelled, the_end_stands_last,
+    tokens_spell_one_expression,
 };
 pub use operand::Operand;

@@ -1,0 +1,4 @@
+pub mod Counts
+pub mod Onward
+pub mod Fronts
+pub mod WholeTexts
