@@ -6,7 +6,7 @@ use Rattle.ca_grammar.specs.declared.operand.Operand.{Operand}
 use Rattle.ca_grammar.specs.Limits.{Depth, Limits, within, Allowed}
 use Rattle.ca_grammar.specs.Expressions.{Part, Primary, Postfixes, Postfix, Level, Operators, Unary, Expression, Spells}
 use Rattle.ca_grammar.specs.Expressions as g
-use Rattle.ca_grammar.specs.Plan.{one_more}
+use Rattle.ca_grammar.specs.ExpressionPlans.{one_more}
 use Rattle.ca_grammar.proofs.Loose.{Fits}
 
 -- what is spelled is at least one deep, and at least as deep as what it goes on from

@@ -6,7 +6,9 @@ use Rattle.ca_tree.specs.Lexed.{token}
 use Rattle.ca_grammar.specs.Words.{Class, Of, Takes, Lacks}
 use Rattle.ca_grammar.specs.Limits.{Limits}
 use Rattle.ca_grammar.specs.Faults.{first}
-use Rattle.ca_grammar.specs.Plan.{Goal, Plan, call, Outcome, Yes, No, Reads, gives, takes, overs, passes, wants, exceeds, misses, calls, fails}
+use Rattle.ca_grammar.specs.Goals.{Goal}
+use Rattle.ca_grammar.specs.Plan.{Plan, call}
+use Rattle.ca_grammar.specs.Reads.{Outcome, Yes, No, Reads, gives, takes, overs, passes, wants, exceeds, misses, calls, fails}
 use Rattle.ca_grammar.proofs.OneOutcome.{rest}
 
 abbrev pub with_rest : {g : Goal} → Outcome g → List Token → Outcome g

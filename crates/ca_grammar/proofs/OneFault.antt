@@ -1,5 +1,5 @@
 -- Tokens that are a text have no fault, and others at most one, whatever the texts are.
-use Rattle.std.proofs.Common.{◌≡◌, ◌⊎◌, inl, inr, ℕ, ◌<◌, ◌≤◌, ◌+◌, Bool, true, false, ◌||◌, ◌==◌, List, [], ◌∷◌, ◌++◌, length, Option, Some, None, if◌then◌else◌, nat_lt, arith, refl, sym, ap, subst, ◌∙◌, append_assoc}
+use Rattle.std.proofs.Common.{◌≡◌, ◌⊎◌, inl, inr, ℕ, ◌<◌, ◌≤◌, ◌+◌, Bool, true, false, ◌||◌, ◌==◌, List, [], ◌∷◌, ◌++◌, length, Option, Some, if◌then◌else◌, nat_lt, arith, refl, sym, ap, subst, ◌∙◌, append_assoc}
 use Rattle.std.proofs.lemmas.Bool.{lt-ltb, ltb-true, cases_order}
 use Rattle.std.proofs.lemmas.List.{length-append}
 use Rattle.ca_tree.specs.declared.text.Pos.{Pos}
@@ -7,10 +7,10 @@ use Rattle.ca_tree.specs.declared.token.Token.{Token}
 use Rattle.ca_grammar.specs.declared.faults.Counted.TheVariants as counted
 use Rattle.ca_grammar.specs.declared.faults.ReadKind.{ReadKind}
 use Rattle.ca_grammar.specs.declared.faults.ReadFault.{ReadFault}
-use Rattle.ca_grammar.specs.Limits.{Rule, Limit, Depth, Star, Limits, the_limits, no_rules, only, order, within, Allowed, kept}
+use Rattle.ca_grammar.specs.Limits.{Rule, Limit, Depth, Star, Limits, the_limits, no_rules, only, order, Allowed, kept}
 use Rattle.ca_grammar.specs.Faults.{first, latest, Begins, GoesOn, is_name, kind_at, kind_of, place_of, IsUnknown, IsBroken}
 use Rattle.ca_grammar.specs.Laws.{AllowsMore, all_kept, Spreads, NoFault, OneFault}
-use Rattle.ca_grammar.proofs.WeakerLimits.{Weaker}
+use Rattle.ca_grammar.proofs.WeakerLimits.{Weaker, weaker_none, weaker_only}
 
 -- ---- what is allowed under weaker limits
 
@@ -26,20 +26,10 @@ lt_more n k j l h = lt-ltb n j (omega (arith, l, ltb-true n k h))
 pub allows_more : (limits weak : Limits) (k j : ℕ) → Weaker limits weak → k ≤ j → AllowsMore (kept limits k) (kept weak j)
 allows_more limits weak k j w l (Limit of) n ts h = or_weaker _ _ _ _ (lt_more (length ts) k j l) (w (Limit of) n) h
 allows_more limits weak k j w l Depth n ts h = w Depth n h
-allows_more limits weak k j w l Star n ts h = or_weaker _ _ _ _ (lt_more (length ts) k j l) (w Star n) h
+allows_more limits weak k j w l Star n ts h = w Star n h
 
 same_limits : (limits : Limits) → Weaker limits limits
 same_limits limits r n h = h
-
-no_rules_weaker : (limits : Limits) → Weaker limits no_rules
-no_rules_weaker limits r n h = refl
-
-only_weaker : (s : Rule) → Weaker the_limits (only s)
-only_weaker s r n h = one_or_none (order r == order s) (the_limits r) h
-  where
-    one_or_none : (b : Bool) (limit : Option ℕ) → within limit n ≡ true → within (if b then limit else None) n ≡ true
-    one_or_none true limit h = h
-    one_or_none false limit h = refl
 
 -- ---- a text that goes on within the limits refutes a fault
 
@@ -51,8 +41,8 @@ abbrev Cause : (Allowed → List Token → Type 0) → (front rest : List Token)
 Cause texts front rest f = IsUnknown texts front rest f ⊎ IsBroken texts front rest f
 
 refuted : (texts : Allowed → List Token → Type 0) → Spreads texts → (front rest : List Token) (f : ReadFault) → Cause texts front rest f → GoesOn texts the_limits front rest → ⊥
-refuted texts s front rest f (inl u) g = u.unknown (goes_on_more texts s the_limits no_rules (no_rules_weaker the_limits) front rest g)
-refuted texts s front rest f (inr b) g = b.broken (goes_on_more texts s the_limits (only b.rule) (only_weaker b.rule) front rest g)
+refuted texts s front rest f (inl u) g = u.unknown (goes_on_more texts s the_limits no_rules (weaker_none the_limits) front rest g)
+refuted texts s front rest f (inr b) g = b.broken (goes_on_more texts s the_limits (only b.rule) (weaker_only b.rule) front rest g)
 
 pub no_fault : NoFault
 no_fault texts s ts f h d =

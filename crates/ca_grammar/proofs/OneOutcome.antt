@@ -1,13 +1,15 @@
 -- A plan comes to one outcome.
-use Rattle.std.proofs.Common.{◌≡◌, ℕ, List, ◌∷◌, Option, Some, None, refl, sym, ap, subst, ◌∙◌}
+use Rattle.std.proofs.Common.{◌≡◌, List, ◌∷◌, Option, Some, None, refl, sym, ap, subst, ◌∙◌}
 use Rattle.ca_tree.specs.declared.text.Pos.{Pos}
 use Rattle.ca_tree.specs.declared.token.Token.{Token}
 use Rattle.ca_tree.specs.declared.token.Word.{Word}
 use Rattle.ca_tree.specs.Lexed.{token}
 use Rattle.ca_grammar.specs.declared.faults.Count.{Count}
 use Rattle.ca_grammar.specs.Words.{Class, The_mark, The_word, A_number, A_string, A_name, A_name_of_the_source, A_unary_operator, A_binary_operator, An_update_operator, A_step_operator, The_end, Of, Is, Takes}
-use Rattle.ca_grammar.specs.Limits.{Rule, Limits}
-use Rattle.ca_grammar.specs.Plan.{Goal, Tree, Plan, exceeded, Outcome, Yes, No, Reads, gives, takes, overs, passes, wants, exceeds, misses, calls, fails}
+use Rattle.ca_grammar.specs.Limits.{Rule, Limits, Firm}
+use Rattle.ca_grammar.specs.Goals.{Goal, Tree}
+use Rattle.ca_grammar.specs.Plan.{Plan}
+use Rattle.ca_grammar.specs.Reads.{exceeded, Outcome, Yes, No, Reads, gives, takes, overs, passes, wants, exceeds, misses, calls, fails}
 
 -- a word is of a class in one way
 pub is_same : (c : Class) (w : Word) (x y : Of c) → Is c w x → Is c w y → x ≡ y
@@ -65,8 +67,8 @@ no_is : {g q : Goal} (r s : Option Rule) (us vs : List Token) → ◌≡◌ {A =
 no_is {g} r s us vs h = ap (λ o. let y : Outcome g = No (why o) (rest o) in y) h
 
 -- a step is allowed or breaks one rule
-same_rule : (limits : Limits) (c : Class) (deep : Option ℕ) (counts : Of c → List Count) {x y : Of c} {r s : Option Rule} → x ≡ y → exceeded limits (counts x) deep ≡ r → exceeded limits (counts y) deep ≡ s → r ≡ s
-same_rule limits c deep counts e h i = sym h ∙ ap (λ z. exceeded limits (counts z) deep) e ∙ i
+same_rule : (limits : Limits) (c : Class) (firm : Option Firm) (counts : Of c → List Count) {x y : Of c} {r s : Option Rule} → x ≡ y → exceeded limits (counts x) firm ≡ r → exceeded limits (counts y) firm ≡ s → r ≡ s
+same_rule limits c firm counts e h i = sym h ∙ ap (λ z. exceeded limits (counts z) firm) e ∙ i
 
 none_some : {r : Rule} → ◌≡◌ {A = Option Rule} None (Some r) → ⊥
 none_some h = absurd cc
@@ -80,10 +82,10 @@ same_outcome {g = g} (gives {a = a}) gives h = ap (λ (w : List Token). let y : 
 same_outcome {limits} {g} {x = o} (takes {on = on} {p = p} {x = x} t e d) (takes {p = q} {x = y} {us = vs} s i c) h =
     let same = same_take t s h in
     same_outcome d (subst (λ z. Reads limits g (on p z) vs o) (sym same.1) (subst (λ z. Reads limits g (on z y) vs o) (sym same.0) c)) same.2
-same_outcome {limits} (takes {deep = deep} {counts = counts} t e d) (overs s i) h = absurd (none_some (same_rule limits _ deep counts (same_take t s h).1 e i))
+same_outcome {limits} (takes {firm = firm} {counts = counts} t e d) (overs s i) h = absurd (none_some (same_rule limits _ firm counts (same_take t s h).1 e i))
 same_outcome (takes {p = p} {x = x} {us = us} t e d) (passes l c) h = absurd (l p x us (take_on h t))
-same_outcome {limits} (overs {deep = deep} {counts = counts} t e) (takes s i c) h = absurd (none_some (sym (same_rule limits _ deep counts (same_take t s h).1 e i)))
-same_outcome {limits} (overs {deep = deep} {counts = counts} t e) (overs s i) h = broken (same_rule limits _ deep counts (same_take t s h).1 e i) h
+same_outcome {limits} (overs {firm = firm} {counts = counts} t e) (takes s i c) h = absurd (none_some (sym (same_rule limits _ firm counts (same_take t s h).1 e i)))
+same_outcome {limits} (overs {firm = firm} {counts = counts} t e) (overs s i) h = broken (same_rule limits _ firm counts (same_take t s h).1 e i) h
 same_outcome (overs {p = p} {x = x} {us = us} t e) (passes l c) h = absurd (l p x us (take_on h t))
 same_outcome (passes l d) (takes {p = p} {x = x} {us = us} s i c) h = absurd (l p x us (take_on (sym h) s))
 same_outcome (passes l d) (overs {p = p} {x = x} {us = us} s i) h = absurd (l p x us (take_on (sym h) s))

@@ -4,20 +4,21 @@ use Rattle.ca_tree.specs.declared.token.Token.{Token}
 use Rattle.ca_tree.specs.Lexed.{token}
 use Rattle.ca_grammar.specs.declared.faults.Count.{Count}
 use Rattle.ca_grammar.specs.Words.{Class}
-use Rattle.ca_grammar.specs.Limits.{Rule, Limits}
+use Rattle.ca_grammar.specs.Limits.{Rule, Limits, Firm}
 use Rattle.ca_grammar.specs.Faults.{first}
-use Rattle.ca_grammar.specs.Plan.{Goal, Tree, Plan, call, exceeded, No, Reads, takes, overs, passes, wants, exceeds, calls, fails}
-use Rattle.ca_grammar.proofs.Theory.{back}
+use Rattle.ca_grammar.specs.Goals.{Goal, Tree}
+use Rattle.ca_grammar.specs.Plan.{Plan, call}
+use Rattle.ca_grammar.specs.Reads.{exceeded, No, Reads, takes, overs, passes, wants, exceeds, calls, fails}
 use Rattle.ca_grammar.proofs.Loose.{Loose, l_take, l_pass, l_want, l_call}
 use Rattle.ca_grammar.proofs.LocalReading.{with_behind}
-use Rattle.ca_grammar.proofs.Took.{took, loose_take, loose_want, allowed_counts, allowed_deep}
+use Rattle.ca_grammar.proofs.Took.{Back, took, loose_take, loose_want, allowed_counts, allowed_deep}
 use Rattle.ca_grammar.proofs.WeakerLimits.{Weaker, weaker_yes, exceeded_more}
-use Rattle.ca_grammar.proofs.Open.{IsCompletable, completable, completed}
-use Rattle.ca_grammar.proofs.Steps.{OfNames, IsWord, Steps, steps}
+use Rattle.ca_grammar.proofs.Open.{Samples, completed}
+use Rattle.ca_grammar.proofs.Steps.{IsWord, Tidy, Steps, steps}
 
 -- a step that breaks the rule r breaks none of the weaker limits
-abbrev pub Spares : (limits weak : Limits) (r : Rule) → Class → List Count → Option ℕ → Type 0
-Spares limits weak r c cs deep = exceeded limits cs deep ≡ Some r → exceeded weak cs deep ≡ None
+abbrev pub Spares : (limits weak : Limits) (r : Rule) → Class → List Count → Option Firm → Type 0
+Spares limits weak r c cs firm = exceeded limits cs firm ≡ Some r → exceeded weak cs firm ≡ None
 
 -- what was read begins a spelling that goes on with the very token at which a rule was broken
 pub record OpensThrough (limits : Limits) (g : Goal) (f : Plan g) (ts us : List Token) : Type 0 where
@@ -35,36 +36,36 @@ rejoined ms ns vs k h some =
     let i : length (ms ++ (ns ++ vs)) ≤ k = subst (λ w. length w ≤ k) (append_assoc ms ns vs) h in
     (i, omega (arith, i, some, length-append ms (ns ++ vs)))
 
-module _ (limits weak : Limits) (r : Rule) (each : (c : Class) (cs : List Count) (deep : Option ℕ) → IsWord c → OfNames cs → Spares limits weak r c cs deep) where
-  pub opens_through : {g : Goal} {f : Plan g} {ts us : List Token} → Weaker limits weak → Reads limits g f ts (No (Some r) us) → IsCompletable f → Steps (Spares limits weak r) f → OpensThrough weak g f ts us
-  opens_through w (takes {deep = deep} {counts = counts} {p = p} {x = x} t e d) h s =
-      let o = opens_through w d (h.0 p x) (s.1 p x) in
+module _ (back : Back) (sample : Samples) (limits weak : Limits) (r : Rule) (each : (c : Class) (cs : List Count) (firm : Option Firm) → IsWord c → Tidy firm cs → Spares limits weak r c cs firm) where
+  pub opens_through : {g : Goal} {f : Plan g} {ts us : List Token} → Weaker limits weak → Reads limits g f ts (No (Some r) us) → Steps (Spares limits weak r) f → OpensThrough weak g f ts us
+  opens_through w (takes {firm = firm} {counts = counts} {p = p} {x = x} t e d) s =
+      let o = opens_through w d (s.1 p x) in
       record {
         front = token p t.first ∷ o.front;
         parts = t.parts ∙ ap (λ (v : List Token). token p t.first ∷ v) o.parts;
         tree = o.tree;
         more = o.more;
-        loose = λ k vs i. loose_take t (exceeded_more _ _ w (counts x) deep None tt e) (o.loose k vs i);
+        loose = λ k vs i. loose_take t (exceeded_more _ _ w (counts x) firm None tt e) (o.loose k vs i);
         next = o.next;
         some = o.some;
       }
-  opens_through w (overs {deep = deep} {counts = counts} {on = on} {p = p} {x = x} t e) h s =
-      let m = completed weak (on p x) (h.0 p x) in
+  opens_through w (overs {firm = firm} {counts = counts} {on = on} {p = p} {x = x} t e) s =
+      let m = completed sample (Spares limits weak r) weak (on p x) (s.1 p x) in
       let u = token p t.first in
       record {
         front = [];
         parts = refl;
         tree = m.tree;
         more = u ∷ m.more;
-        loose = λ k vs i. l_take (with_behind t (m.more ++ vs)) (allowed_counts weak k (counts x) deep (u ∷ (m.more ++ vs)) (s.0 x e)) (allowed_deep weak (counts x) deep (s.0 x e)) (m.loose k vs (omega (arith, i)));
+        loose = λ k vs i. l_take (with_behind t (m.more ++ vs)) (allowed_counts weak k (counts x) firm (u ∷ (m.more ++ vs)) (s.0.holds x e)) (allowed_deep weak (counts x) firm (s.0.holds x e)) (m.loose k vs (omega (arith, i)));
         next = λ vs. sym (ap first t.parts);
         some = omega arith;
       }
-  opens_through w (passes m d) h s =
-      let o = opens_through w d h.1 s.2 in
+  opens_through w (passes m d) s =
+      let o = opens_through w d s.2 in
       record { front = o.front; parts = o.parts; tree = o.tree; more = o.more; loose = λ k vs i. l_pass (o.loose k vs i); next = o.next; some = o.some }
-  opens_through w (wants {counts = counts} {p = p} {x = x} t e d) h s =
-      let o = opens_through w d (h.1 p x) (s.1 p x) in
+  opens_through w (wants {counts = counts} {p = p} {x = x} t e d) s =
+      let o = opens_through w d (s.2 p x) in
       record {
         front = token p t.first ∷ o.front;
         parts = t.parts ∙ ap (λ (v : List Token). token p t.first ∷ v) o.parts;
@@ -74,21 +75,21 @@ module _ (limits weak : Limits) (r : Rule) (each : (c : Class) (cs : List Count)
         next = o.next;
         some = o.some;
       }
-  opens_through w (exceeds {counts = counts} {on = on} {p = p} {x = x} t e) h s =
-      let m = completed weak (on p x) (h.1 p x) in
+  opens_through w (exceeds {counts = counts} {on = on} {p = p} {x = x} t e) s =
+      let m = completed sample (Spares limits weak r) weak (on p x) (s.2 p x) in
       let u = token p t.first in
       record {
         front = [];
         parts = refl;
         tree = m.tree;
         more = u ∷ m.more;
-        loose = λ k vs i. l_want (with_behind t (m.more ++ vs)) (allowed_counts weak k (counts x) None (u ∷ (m.more ++ vs)) (s.0 x e)) (m.loose k vs (omega (arith, i)));
+        loose = λ k vs i. l_want (with_behind t (m.more ++ vs)) (allowed_counts weak k (counts x) None (u ∷ (m.more ++ vs)) (s.0.holds x e)) (m.loose k vs (omega (arith, i)));
         next = λ vs. sym (ap first t.parts);
         some = omega arith;
       }
-  opens_through {us = vs} w (calls {g} {q} {on} {a = b} d c) h s =
-      let l = took (weaker_yes w d) in
-      let o = opens_through w c (h b) (s.1 b) in
+  opens_through {us = vs} w (calls {g} {q} {on} {a = b} d c) s =
+      let l = took back (weaker_yes w d) in
+      let o = opens_through w c (s.1 b) in
       record {
         front = l.front ++ o.front;
         parts = l.parts ∙ ap (λ (v : List Token). l.front ++ v) o.parts ∙ sym (append_assoc l.front o.front vs);
@@ -99,9 +100,9 @@ module _ (limits weak : Limits) (r : Rule) (each : (c : Class) (cs : List Count)
         next = o.next;
         some = o.some;
       }
-  opens_through w (fails {g} {q} {on} d) h s =
-      let o = opens_through w d (completable q) (steps (Spares limits weak r) each q s.0) in
-      let m = completed weak (on o.tree) (h o.tree) in
+  opens_through w (fails {g} {q} {on} d) s =
+      let o = opens_through w d (steps (Spares limits weak r) each q s.0) in
+      let m = completed sample (Spares limits weak r) weak (on o.tree) (s.1 o.tree) in
       record {
         front = o.front;
         parts = o.parts;

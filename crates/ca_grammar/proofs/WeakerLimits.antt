@@ -1,14 +1,26 @@
 -- Under weaker limits a plan comes to the same outcome, where the rule that is broken stays.
-use Rattle.std.proofs.Common.{◌≡◌, ℕ, Bool, true, false, List, [], ◌∷◌, Option, Some, None, if◌then◌else◌, refl, sym, ap, subst, ◌∙◌, true≢false}
+use Rattle.std.proofs.Common.{◌≡◌, ℕ, Bool, true, false, List, [], ◌∷◌, Option, Some, None, if◌then◌else◌, refl, sym, ap, subst, ◌∙◌, ◌==◌, true≢false}
 use Rattle.ca_tree.specs.declared.token.Token.{Token}
 use Rattle.ca_grammar.specs.declared.faults.Count.{Count}
-use Rattle.ca_grammar.specs.Limits.{Rule, Limit, Depth, Limits, within}
-use Rattle.ca_grammar.specs.Plan.{Goal, Tree, Plan, first_exceeded, or_else, exceeded, Outcome, Yes, No, Reads, gives, takes, overs, passes, wants, exceeds, misses, calls, fails}
+use Rattle.ca_grammar.specs.Limits.{Rule, Limit, Limits, no_rules, only, order, the_limits, within, Firm}
+use Rattle.ca_grammar.specs.Goals.{Goal, Tree}
+use Rattle.ca_grammar.specs.Plan.{Plan}
+use Rattle.ca_grammar.specs.Reads.{first_exceeded, or_else, exceeded, Outcome, Yes, No, Reads, gives, takes, overs, passes, wants, exceeds, misses, calls, fails}
 use Rattle.ca_grammar.proofs.OneOutcome.{why}
 
 -- what is within the ones is within the others
 abbrev pub Weaker : Limits → Limits → Type 0
 Weaker limits more = (r : Rule) (n : ℕ) → within (limits r) n ≡ true → within (more r) n ≡ true
+
+pub weaker_none : (limits : Limits) → Weaker limits no_rules
+weaker_none limits r n h = refl
+
+pub weaker_only : (s : Rule) → Weaker the_limits (only s)
+weaker_only s r n h = one_or_none (order r == order s) (the_limits r) h
+  where
+    one_or_none : (b : Bool) (limit : Option ℕ) → within limit n ≡ true → within (if b then limit else None) n ≡ true
+    one_or_none true limit h = h
+    one_or_none false limit h = refl
 
 -- the rule that is broken, if one is, is the same in both
 abbrev pub Keeps : Limits → Limits → Option Rule → Type 0
@@ -31,22 +43,22 @@ first_more limits more w (c ∷ cs) r k e =
     (w (Limit c.of) c.number) (keeps_at limits more (Limit c.of) r c.number k) (first_more limits more w cs r k) e
 
 -- a step breaks the same rule, or none
-pub exceeded_more : (limits more : Limits) → Weaker limits more → (cs : List Count) (deep : Option ℕ) (r : Option Rule) → Keeps limits more r → exceeded limits cs deep ≡ r → exceeded more cs deep ≡ r
+pub exceeded_more : (limits more : Limits) → Weaker limits more → (cs : List Count) (firm : Option Firm) (r : Option Rule) → Keeps limits more r → exceeded limits cs firm ≡ r → exceeded more cs firm ≡ r
 exceeded_more limits more w cs None r k e = first_more limits more w cs r k e
-exceeded_more limits more w cs (Some n) r k e =
+exceeded_more limits more w cs (Some f) r k e =
     chooses _ (first_exceeded more cs)
-    ∙ chosen (within (limits Depth) n) (within (more Depth) n) Depth (first_exceeded limits cs) (first_exceeded more cs) r
-    (w Depth n) (keeps_at limits more Depth r n k) (first_more limits more w cs r k) (sym (chooses _ (first_exceeded limits cs)) ∙ e)
+    ∙ chosen (within (limits f.0) f.1) (within (more f.0) f.1) f.0 (first_exceeded limits cs) (first_exceeded more cs) r
+    (w f.0 f.1) (keeps_at limits more f.0 r f.1 k) (first_more limits more w cs r k) (sym (chooses _ (first_exceeded limits cs)) ∙ e)
   where
-    chooses : (b : Bool) (s : Option Rule) → or_else (if b then None else Some Depth) s ≡ (if b then s else Some Depth)
+    chooses : (b : Bool) (s : Option Rule) → or_else (if b then None else Some f.0) s ≡ (if b then s else Some f.0)
     chooses true s = refl
     chooses false s = refl
 
 -- what comes to an outcome comes to it under weaker limits, where the rule that is broken stays
 weaker : {limits more : Limits} {g : Goal} {f : Plan g} {ts : List Token} {o : Outcome g} → Weaker limits more → Keeps limits more (why o) → Reads limits g f ts o → Reads more g f ts o
 weaker w k gives = gives
-weaker w k (takes {deep = deep} {counts = counts} {x = x} t e d) = takes t (exceeded_more _ _ w (counts x) deep None tt e) (weaker w k d)
-weaker w k (overs {deep = deep} {counts = counts} {x = x} {r = r} t e) = overs t (exceeded_more _ _ w (counts x) deep (Some r) k e)
+weaker w k (takes {firm = firm} {counts = counts} {x = x} t e d) = takes t (exceeded_more _ _ w (counts x) firm None tt e) (weaker w k d)
+weaker w k (overs {firm = firm} {counts = counts} {x = x} {r = r} t e) = overs t (exceeded_more _ _ w (counts x) firm (Some r) k e)
 weaker w k (passes l d) = passes l (weaker w k d)
 weaker w k (wants {counts = counts} {x = x} t e d) = wants t (exceeded_more _ _ w (counts x) None None tt e) (weaker w k d)
 weaker w k (exceeds {counts = counts} {x = x} {r = r} t e) = exceeds t (exceeded_more _ _ w (counts x) None (Some r) k e)

@@ -92,12 +92,18 @@ abbrev pub before_parenthesis : List Token → Option Token
 before_parenthesis [] = None
 before_parenthesis (u ∷ us) = or_before (before_parenthesis us) u (first us)
 
--- the place where the fault of a broken rule stands: where a function, a global, a struct or a result without its star was named, and else the next token
+-- a token, or the next one
+abbrev pub or_first : Option Token → List Token → Option Token
+or_first None rest = first rest
+or_first (Some u) rest = Some u
+
+-- the token where the fault of a broken rule stands: where a function, a global, a struct or a result without its star was named, which is always before; and else the
+-- next token
 abbrev pub place_of : Rule → (front rest : List Token) → Option Token
-place_of (Limit counted.Functions) front rest = before_parenthesis front
-place_of (Limit counted.Globals) front rest = latest front
-place_of (Limit counted.Structs) front rest = latest front
-place_of Star front rest = latest front
+place_of (Limit counted.Functions) front rest = or_first (before_parenthesis front) rest
+place_of (Limit counted.Globals) front rest = or_first (latest front) rest
+place_of (Limit counted.Structs) front rest = or_first (latest front) rest
+place_of Star front rest = or_first (latest front) rest
 place_of r front rest = first rest
 
 -- no text goes on with the next token

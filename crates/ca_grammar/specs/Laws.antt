@@ -2,9 +2,11 @@
 use Rattle.std.specs.Prelude.{◌≡◌, ◌≤◌, ℕ, true, List}
 use Rattle.ca_tree.specs.declared.token.Token.{Token}
 use Rattle.ca_tree.specs.declared.tree.Exp.{Exp}
+use Rattle.ca_tree.specs.declared.tree.Program.{Program}
 use Rattle.ca_grammar.specs.declared.faults.ReadFault.{ReadFault}
 use Rattle.ca_grammar.specs.declared.operand.Operand.{Operand}
 use Rattle.ca_grammar.specs.Limits.{Rule, Allowed, the_limits, kept}
+use Rattle.ca_grammar.specs.Declarations.{IsProgram}
 use Rattle.ca_grammar.specs.Texts.{IsExpression}
 use Rattle.ca_grammar.specs.Trees.{depth, has_names, Spelling}
 use Rattle.ca_grammar.specs.Faults.{IsFault}
@@ -19,6 +21,9 @@ all_kept = kept the_limits 0
 
 abbrev pub OneExpression : Type 0
 OneExpression = (allowed : Allowed) (ts : List Token) (a b : Operand) → IsExpression allowed a ts → IsExpression allowed b ts → a ≡ b
+
+abbrev pub OneProgram : Type 0
+OneProgram = (allowed : Allowed) (ts : List Token) (a b : Program) → IsProgram allowed a ts → IsProgram allowed b ts → a ≡ b
 
 abbrev pub EachIsSpelled : Type 0
 EachIsSpelled = (a : Exp) → depth a ≤ 64 → has_names a ≡ true → Spelling a

@@ -8,4 +8,11 @@ pub mod Texts
 pub mod Trees
 pub mod Faults
 pub mod Laws
+pub mod ProgramTrees
+pub mod Goals
 pub mod Plan
+pub mod ExpressionPlans
+pub mod PhrasePlans
+pub mod StatementPlans
+pub mod DeclarationPlans
+pub mod Reads

@@ -70,7 +70,12 @@ within (Some most) n = nat_le n most
 abbrev pub Allowed : Type 0
 Allowed = Rule → ℕ → List Token → Bool
 
--- the limits are kept, and those that are counted at a token, down to the tokens of which fewer than k are left
+-- the limits are kept: those of depth and of stars everywhere, and those of what is counted down to the tokens of which fewer than k are left
 abbrev pub kept : Limits → ℕ → Allowed
 kept limits k Depth n ts = within (limits Depth) n
+kept limits k Star n ts = within (limits Star) n
 kept limits k r n ts = nat_lt (length ts) k || within (limits r) n
+
+-- a rule that is kept everywhere, and the number that a step has for it
+abbrev pub Firm : Type 0
+Firm = Rule × ℕ

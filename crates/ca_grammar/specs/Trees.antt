@@ -1,11 +1,11 @@
--- Expressions by their trees alone: how deep they are, and whether their names are names.
+-- Expressions by their trees alone: how deep they are, and whether their names and numbers can be written.
 use Rattle.std.specs.Prelude.{◌≡◌, ℕ, ◌+◌, max, Bool, true, not, ◌&&◌, nat_le, List, length}
 use Rattle.ca_tree.specs.declared.token.Token.{Token}
 use Rattle.ca_tree.specs.declared.tree.Name.{Name}
 use Rattle.ca_tree.specs.declared.tree.Exp.{Exp, fold-Exp}
 use Rattle.ca_tree.specs.declared.tree.Exp.TheOpen.{Exp-F}
 use Rattle.ca_grammar.specs.declared.operand.Operand.{Operand}
-use Rattle.ca_grammar.specs.Words.{is_reserved}
+use Rattle.ca_grammar.specs.Words.{is_natural, is_reserved}
 use Rattle.ca_grammar.specs.Limits.{the_limits, kept}
 use Rattle.ca_grammar.specs.Texts.{IsExpression}
 
@@ -28,7 +28,7 @@ abbrev pub is_short_name : Name → Bool
 is_short_name n = not (is_reserved n.text) && nat_le (length n.text) 63
 
 abbrev pub names_step : Exp-F Bool → Bool
-names_step (Exp-F.Number p n) = true
+names_step (Exp-F.Number p n) = is_natural n
 names_step (Exp-F.Null p) = true
 names_step (Exp-F.Name n) = is_short_name n
 names_step (Exp-F.Unary p o a) = a

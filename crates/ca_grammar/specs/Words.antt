@@ -1,5 +1,5 @@
 -- What one token may have to be: a mark, a word, a number, a string, a name or an operator.
-use Rattle.std.specs.Prelude.{◌≡◌, ℕ, ℤ, Bool, false, ◌||◌, List, [], ◌∷◌, Option, Some, None, codes}
+use Rattle.std.specs.Prelude.{◌≡◌, ℕ, ℤ, Bool, false, ◌||◌, List, [], ◌∷◌, Option, Some, None, codes, pos, negsuc, true}
 use Rattle.std.specs.List.{list_any}
 use Rattle.std.specs.Str.{bytes_eq}
 use Rattle.ca_tree.specs.declared.text.Pos.{Pos}
@@ -110,6 +110,11 @@ step_operator (word.Mark mark.Increment) = Some update.Add
 step_operator (word.Mark mark.Decrement) = Some update.Sub
 step_operator w = None
 
+-- a number of a text has no sign
+abbrev pub is_natural : ℤ → Bool
+is_natural (pos n) = true
+is_natural (negsuc n) = false
+
 -- what a token may have to be
 pub data Class : Type 0 where
   The_mark : (m : Mark) → Class
@@ -143,7 +148,7 @@ Of The_end = Unit {0}
 abbrev pub Is : (c : Class) → Word → Of c → Type 0
 Is (The_mark m) w x = w ≡ word.Mark m
 Is (The_word t) w x = w ≡ word.Name t
-Is A_number w n = w ≡ word.Number n
+Is A_number w n = (w ≡ word.Number n) × (is_natural n ≡ true)
 Is A_string w t = w ≡ word.Str t
 Is A_name w t = (w ≡ word.Name t) × (is_reserved t ≡ false)
 Is A_name_of_the_source w t = (w ≡ word.Name t) × (is_reserved t ≡ false) × (is_library_word t ≡ false)

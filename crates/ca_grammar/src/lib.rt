@@ -7,7 +7,8 @@ mod operand;
 
 pub use faults::{Count, Counted, LeftOut, ReadFault, ReadKind};
 pub use laws::{
-    an_expression_has_one_fault, each_expression_is_spelled, the_end_stands_last,
-    tokens_spell_one_expression,
+    a_program_has_one_fault, an_expression_has_one_fault, each_expression_is_spelled,
+    each_program_is_spelled, the_end_stands_last, tokens_spell_one_expression,
+    tokens_spell_one_program,
 };
 pub use operand::Operand;

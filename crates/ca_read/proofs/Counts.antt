@@ -7,7 +7,8 @@ use Rattle.ca_grammar.specs.declared.faults.Count.{Count}
 use Rattle.ca_grammar.specs.declared.faults.Counted.{Counted}
 use Rattle.ca_grammar.specs.declared.faults.Counted.TheVariants.{Items, NameBytes}
 use Rattle.ca_grammar.specs.Limits.{Rule, Limit, the_limits, within, most}
-use Rattle.ca_grammar.specs.Plan.{first_exceeded, or_else, and_name, bytes_of_name}
+use Rattle.ca_grammar.specs.Reads.{first_exceeded, or_else}
+use Rattle.ca_grammar.specs.Plan.{and_name, bytes_of_name}
 use Rattle.ca_read.specs.Reading.{IsExceeded}
 
 pub none_there : Count

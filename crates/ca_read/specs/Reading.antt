@@ -11,12 +11,15 @@ use Rattle.ca_grammar.specs.declared.faults.Counted.{Counted}
 use Rattle.ca_grammar.specs.declared.faults.ReadKind.TheVariants.{TooMany}
 use Rattle.ca_grammar.specs.declared.operand.Operand.{Operand}
 use Rattle.ca_grammar.specs.Words.{The_mark, A_name}
-use Rattle.ca_grammar.specs.Limits.{Rule, the_limits}
+use Rattle.ca_grammar.specs.Limits.{Rule, Firm, Star, the_limits}
 use Rattle.ca_grammar.specs.Faults.{kind_of}
 use Rattle.ca_grammar.specs.Expressions.{name, index, field, arrow}
-use Rattle.ca_grammar.specs.Plan.{Goal, Postfixes, Level, Tree, Plan, want, call, no_counts, and_name, more_postfixes, one_more, plan, Outcome, Yes, No, Reads, exceeded}
+use Rattle.ca_grammar.specs.Goals.{Goal, Postfixes, Level, Tree}
+use Rattle.ca_grammar.specs.Plan.{deep, Plan, want, call, no_counts, and_name}
+use Rattle.ca_grammar.specs.ExpressionPlans.{more_postfixes, one_more}
+use Rattle.ca_grammar.specs.Reads.{plan, Outcome, Yes, No, Reads, exceeded}
 use Rattle.ca_read.specs.declared.stop.Stop.{Stop}
-use Rattle.ca_read.specs.declared.stop.Stop.TheVariants.{At, Over, NoMemory}
+use Rattle.ca_read.specs.declared.stop.Stop.TheVariants.{At, Over, Starless, NoMemory}
 use Rattle.ca_read.specs.declared.expressions.PostfixMark.{PostfixMark}
 use Rattle.ca_read.specs.declared.expressions.PostfixMark.TheVariants.{OpenBracket, Dot, Arrow}
 
@@ -24,6 +27,7 @@ use Rattle.ca_read.specs.declared.expressions.PostfixMark.TheVariants.{OpenBrack
 abbrev pub StopsIn : (g : Goal) → Plan g → List Token → Stop → Type 0
 StopsIn g k ts (At us) = Reads the_limits g k ts (No None us.now)
 StopsIn g k ts (Over c us) = (r : Rule) × Reads the_limits g k ts (No (Some r) us.now) × (kind_of r ≡ TooMany c)
+StopsIn g k ts (Starless us) = Reads the_limits g k ts (No (Some Star) us.now)
 StopsIn g k ts NoMemory = Unit {0}
 
 abbrev pub Stops : (g : Goal) → List Token → Stop → Type 0
@@ -33,10 +37,14 @@ abbrev pub Reading : {X : Type 0} (g : Goal) → (X → Tree g × List Token) �
 Reading g view ts (Ok x) = Reads the_limits g (plan g) ts (Yes (view x).0 (view x).1)
 Reading g view ts (Err e) = Stops g ts e
 
+abbrev pub at_depth : Option ℕ → Option Firm
+at_depth None = None
+at_depth (Some n) = deep n
+
 -- the first rule that a step breaks, as what there are too many of
 abbrev pub IsExceeded : List Count → Option ℕ → Option Counted → Type 0
-IsExceeded cs deep None = exceeded the_limits cs deep ≡ None
-IsExceeded cs deep (Some c) = (r : Rule) × (exceeded the_limits cs deep ≡ Some r) × (kind_of r ≡ TooMany c)
+IsExceeded cs depth None = exceeded the_limits cs (at_depth depth) ≡ None
+IsExceeded cs depth (Some c) = (r : Rule) × (exceeded the_limits cs (at_depth depth) ≡ Some r) × (kind_of r ≡ TooMany c)
 
 -- an operand that stands v deep, and maybe directly in parentheses, is no deeper than an expression may be
 abbrev pub IsWithin : (v : ℕ) (inside : Bool) → Operand → Type 0
@@ -47,10 +55,10 @@ pub record Onward (q g : Goal) (turn : Tree q → Tree g) (k : Plan g) (us ts : 
   pub yes : (a : Tree q) (vs : List Token) → Reads the_limits q (plan q) us (Yes a vs) → Reads the_limits g k ts (Yes (turn a) vs)
   pub no : (r : Option Rule) (vs : List Token) → Reads the_limits q (plan q) us (No r vs) → Reads the_limits g k ts (No r vs)
 
--- a name is read that has to be there, whatever the plan does with it
-abbrev pub WantsName : List Token → Result (Name × Bor (List Token)) Stop → Type 0
-WantsName ts (Ok x) = (g : Goal) (on : Pos → List ℕ → Plan g) (o : Outcome g) → Reads the_limits g (on x.0.pos x.0.text) x.1.now o → Reads the_limits g (want A_name (and_name []) on) ts o
-WantsName ts (Err e) = (g : Goal) (on : Pos → List ℕ → Plan g) → StopsIn g (want A_name (and_name []) on) ts e
+-- a name is read that has to be there, with what is counted at it, whatever the plan does with it
+abbrev pub WantsName : List Count → List Token → Result (Name × Bor (List Token)) Stop → Type 0
+WantsName cs ts (Ok x) = (g : Goal) (on : Pos → List ℕ → Plan g) (o : Outcome g) → Reads the_limits g (on x.0.pos x.0.text) x.1.now o → Reads the_limits g (want A_name (and_name cs) on) ts o
+WantsName cs ts (Err e) = (g : Goal) (on : Pos → List ℕ → Plan g) → StopsIn g (want A_name (and_name cs) on) ts e
 
 abbrev pub mark_of : PostfixMark → Mark
 mark_of OpenBracket = mark.OpenBracket

@@ -5,19 +5,23 @@ ghost use Rattle.ca_tree.specs.declared.token.Mark.TheVariants.{OpenBracket, Dot
 ghost use Rattle.ca_tree.specs.declared.text.Pos.{Pos};
 ghost use Rattle.ca_grammar.specs.Words.{The_mark, Takes, Lacks};
 ghost use Rattle.ca_grammar.specs.Expressions.{leaf as leaf_of, parenthesised as parenthesised_of, deeper as deeper_of, unary as unary_of, binary as binary_of, index as index_of, field as field_of, arrow as arrow_of, name as name_of};
-ghost use Rattle.ca_grammar.specs.Plan.{Primary, Postfix, Level, Unary, Expression, Whole, one_more};
-ghost use Rattle.ca_read.specs.Reading.{Reading, IsWithin, WantsName, Postfixed, mark_of};
+ghost use Rattle.ca_grammar.specs.Goals.{Primary, Postfixes, Postfix, Level, Operators, Behind, From, Unary, Nameless_unary, Expression, Whole};
+ghost use Rattle.ca_grammar.specs.ExpressionPlans.{one_more};
+ghost use Rattle.ca_read.specs.Reading.{Reading, IsWithin, Postfixed, mark_of};
+ghost use Rattle.ca_read.specs.Phrases.{Beginning, on_literal, on_inner, on_signed};
 
 use crate::limits::{exceeded, exceeded_by_name};
+use crate::names::{named, wanted_name};
 use crate::steps::{binary_operator, end, mark, name, number, unary_operator, word};
 use crate::stop::Stop;
 use ca_grammar::{Count, Operand};
 use ca_tree::tree::{BinaryOp, Exp, Name, UnaryOp};
-use ca_tree::{Listed, Mark, NoMemory, Pos, Text, Token};
+use ca_tree::{Mark, NoMemory, Pos, Token};
 use sqlite_items::Boxed;
 use std::alloc::Global;
 
-fn leaf(start: Pos, exp: Exp) -> Operand
+/// A number, `NULL` or a name.
+pub(crate) fn leaf(start: Pos, exp: Exp) -> Operand
     ensures { result ≡ leaf_of start exp }
 {
     Operand {
@@ -102,13 +106,6 @@ fn arrow(alloc: Global, a: Operand, name: Name) -> Result<Operand, NoMemory>
     Ok(deeper(exp, a.start, a.depth))
 }
 
-fn named(alloc: Global, pos: Pos, text: &Text) -> Result<Name, NoMemory>
-    ensures { IfOk result (λ x. x ≡ name_of pos text.now) }
-{
-    let text = Listed::from_vec(Vec::from_slice(alloc, text.as_slice())?);
-    Ok(Name { pos, text })
-}
-
 // A number, `NULL` or a name, where no `(` stands.
 fn bare<'t>(
     alloc: Global,
@@ -160,19 +157,6 @@ fn postfix_mark(tokens: &[Token]) -> Option<(PostfixMark, &[Token])>
     }
     let (_, rest) = mark(Mark::Arrow, tokens)?;
     Some((PostfixMark::Arrow, rest))
-}
-
-fn member<'t>(alloc: Global, tokens: &'t [Token]) -> Result<(Name, &'t [Token]), Stop<'t>>
-    ensures reads { WantsName tokens.now result }
-    ensures shorter { IfOk result (λ x. length x.1.now < length tokens.now) }
-{
-    let Some((pos, text, rest)) = name(tokens) else {
-        return Err(Stop::At(tokens));
-    };
-    if let Some(limit) = exceeded_by_name(&[], text.as_slice()) {
-        return Err(Stop::Over(limit, tokens));
-    }
-    Ok((named(alloc, pos, text)?, rest))
 }
 
 // How deep a part stands in parentheses round it.
@@ -247,11 +231,11 @@ fn behind<'t>(
     match mark {
         PostfixMark::OpenBracket => indexed(alloc, outer, base, tokens),
         PostfixMark::Dot => {
-            let (name, rest) = member(alloc, tokens)?;
+            let (name, rest) = wanted_name(alloc, &[], tokens)?;
             Ok((field(alloc, base, name)?, rest))
         }
         PostfixMark::Arrow => {
-            let (name, rest) = member(alloc, tokens)?;
+            let (name, rest) = wanted_name(alloc, &[], tokens)?;
             Ok((arrow(alloc, base, name)?, rest))
         }
     }
@@ -355,6 +339,182 @@ pub(crate) fn expression<'t>(
     ensures shorter { IfOk result (λ x. length x.1.now < length tokens.now) }
 {
     level(alloc, 6, counts, 0, false, tokens)
+}
+
+// From a primary on, the postfixes behind it.
+fn postfixes<'t>(
+    alloc: Global,
+    base: Operand,
+    tokens: &'t [Token],
+) -> Result<(Operand, &'t [Token]), Stop<'t>>
+    requires low { 1 ≤ base.depth }
+    requires fits { base.depth ≤ 64 }
+    ensures reads { Reading (Postfixes 0 base) (λ x. (x.0, x.1.now)) tokens.now result }
+    ensures shorter { IfOk result (λ x. length x.1.now ≤ length tokens.now) }
+    ensures low { IfOk result (λ x. 1 ≤ x.0.depth) }
+    ensures fits { IfOk result (λ x. x.0.depth ≤ 64) }
+{
+    let mut base = base;
+    let mut rest = tokens;
+    'postfixes: while let Some((mark, after)) = postfix_mark(rest) {
+        if let Some(limit) = exceeded(&[], Some(base.depth + 1)) {
+            return Err(Stop::Over(limit, rest));
+        }
+        (base, rest) = behind(alloc, mark, 0, base, after)?;
+    }
+    Ok((base, rest))
+}
+
+// From an operand on, operators of this level with their right operands.
+fn operators<'t>(
+    alloc: Global,
+    top: u32,
+    left: Operand,
+    tokens: &'t [Token],
+) -> Result<(Operand, &'t [Token]), Stop<'t>>
+    requires above { 1 ≤ top }
+    requires top { top ≤ 6 }
+    requires low { 1 ≤ left.depth }
+    requires fits { left.depth ≤ 64 }
+    ensures reads { Reading (Operators top 0 left) (λ x. (x.0, x.1.now)) tokens.now result }
+    ensures shorter { IfOk result (λ x. length x.1.now ≤ length tokens.now) }
+    ensures low { IfOk result (λ x. 1 ≤ x.0.depth) }
+    ensures fits { IfOk result (λ x. x.0.depth ≤ 64) }
+{
+    let mut left = left;
+    let mut rest = tokens;
+    'operators: while let Some((_, operator, after)) = binary_operator(top, rest) {
+        if let Some(limit) = exceeded(&[], Some(left.depth + 1)) {
+            return Err(Stop::Over(limit, rest));
+        }
+        let (right, after) = level(alloc, top - 1, &[], 1, false, after)?;
+        left = binary(alloc, operator, left, right)?;
+        rest = after;
+    }
+    Ok((left, rest))
+}
+
+/// From a unary on, operators of levels up to this one.
+pub(crate) fn behind_unary<'t>(
+    alloc: Global,
+    top: u32,
+    a: Operand,
+    tokens: &'t [Token],
+) -> Result<(Operand, &'t [Token]), Stop<'t>>
+    requires top { top ≤ 6 }
+    requires low { 1 ≤ a.depth }
+    requires fits { a.depth ≤ 64 }
+    ensures reads { Reading (Behind top a) (λ x. (x.0, x.1.now)) tokens.now result }
+    ensures shorter { IfOk result (λ x. length x.1.now ≤ length tokens.now) }
+    ensures low { IfOk result (λ x. 1 ≤ x.0.depth) }
+    ensures fits { IfOk result (λ x. x.0.depth ≤ 64) }
+{
+    if top == 0 {
+        return Ok((a, tokens));
+    }
+    let (left, rest) = behind_unary(alloc, top - 1, a, tokens)?;
+    operators(alloc, top, left, rest)
+}
+
+/// From a primary on, postfixes and operators of levels up to this one.
+pub(crate) fn behind_primary<'t>(
+    alloc: Global,
+    top: u32,
+    a: Operand,
+    tokens: &'t [Token],
+) -> Result<(Operand, &'t [Token]), Stop<'t>>
+    requires top { top ≤ 6 }
+    requires low { 1 ≤ a.depth }
+    requires fits { a.depth ≤ 64 }
+    ensures reads { Reading (From top a) (λ x. (x.0, x.1.now)) tokens.now result }
+    ensures shorter { IfOk result (λ x. length x.1.now ≤ length tokens.now) }
+{
+    let (b, rest) = postfixes(alloc, a, tokens)?;
+    behind_unary(alloc, top, b, rest)
+}
+
+/// A number or `NULL`.
+pub(crate) fn literal<'t>(
+    counts: &[Count],
+    tokens: &'t [Token],
+) -> Result<(Operand, &'t [Token]), Stop<'t>>
+    ensures reads { Beginning (on_literal counts.now) (λ x. (x.0, x.1.now)) tokens.now result }
+    ensures shorter { IfOk result (λ x. length x.1.now < length tokens.now) }
+    ensures depth { IfOk result (λ x. x.0.depth ≡ 1) }
+{
+    if let Some((start, rest)) = word(b"NULL", tokens) {
+        if let Some(limit) = exceeded(counts, None) {
+            return Err(Stop::Over(limit, tokens));
+        }
+        return Ok((leaf(start, Exp::Null(start)), rest));
+    }
+    let Some((start, value, rest)) = number(tokens) else {
+        return Err(Stop::At(tokens));
+    };
+    if let Some(limit) = exceeded(counts, None) {
+        return Err(Stop::Over(limit, tokens));
+    }
+    Ok((leaf(start, Exp::Number(start, value)), rest))
+}
+
+/// An expression in parentheses, behind its `(`.
+pub(crate) fn inner<'t>(
+    alloc: Global,
+    start: Pos,
+    tokens: &'t [Token],
+) -> Result<(Operand, &'t [Token]), Stop<'t>>
+    ensures reads { Beginning (on_inner start) (λ x. (x.0, x.1.now)) tokens.now result }
+    ensures shorter { IfOk result (λ x. length x.1.now < length tokens.now) }
+    ensures low { IfOk result (λ x. 1 ≤ x.0.depth) }
+    ensures fits { IfOk result (λ x. x.0.depth ≤ 64) }
+{
+    let (a, rest) = level(alloc, 6, &[], 0, true, tokens)?;
+    let Some((_, rest)) = mark(Mark::CloseParen, rest) else {
+        return Err(Stop::At(rest));
+    };
+    Ok((parenthesised(start, a), rest))
+}
+
+/// An operand with an operator before it, behind that.
+pub(crate) fn behind_operator<'t>(
+    alloc: Global,
+    start: Pos,
+    operator: UnaryOp,
+    tokens: &'t [Token],
+) -> Result<(Operand, &'t [Token]), Stop<'t>>
+    ensures reads { Beginning (on_signed start operator) (λ x. (x.0, x.1.now)) tokens.now result }
+    ensures shorter { IfOk result (λ x. length x.1.now < length tokens.now) }
+    ensures low { IfOk result (λ x. 1 ≤ x.0.depth) }
+    ensures fits { IfOk result (λ x. x.0.depth ≤ 64) }
+{
+    let (a, rest) = level(alloc, 0, &[], 1, false, tokens)?;
+    Ok((signed(alloc, start, operator, a)?, rest))
+}
+
+/// A unary that begins with no name, with what is counted at its first token.
+pub(crate) fn nameless_unary<'t>(
+    alloc: Global,
+    counts: &[Count],
+    tokens: &'t [Token],
+) -> Result<(Operand, &'t [Token]), Stop<'t>>
+    ensures reads { Reading (Nameless_unary counts.now) (λ x. (x.0, x.1.now)) tokens.now result }
+    ensures shorter { IfOk result (λ x. length x.1.now < length tokens.now) }
+{
+    if let Some((start, operator, rest)) = unary_operator(tokens) {
+        if let Some(limit) = exceeded(counts, None) {
+            return Err(Stop::Over(limit, tokens));
+        }
+        return behind_operator(alloc, start, operator, rest);
+    }
+    if let Some((start, rest)) = mark(Mark::OpenParen, tokens) {
+        if let Some(limit) = exceeded(counts, None) {
+            return Err(Stop::Over(limit, tokens));
+        }
+        let (a, rest) = inner(alloc, start, rest)?;
+        return behind_primary(alloc, 0, a, rest);
+    }
+    let (a, rest) = literal(counts, tokens)?;
+    behind_primary(alloc, 0, a, rest)
 }
 
 /// An expression, and then the end.

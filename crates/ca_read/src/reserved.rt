@@ -1,7 +1,7 @@
 //! The words that are no names.
 
 ghost use Rattle.std.specs.Prelude.{◌≡◌};
-ghost use Rattle.ca_grammar.specs.Words.{is_left_out, is_one_of, is_reserved, kept_keywords, plain_left_out, reserved_names, underscored_left_out};
+ghost use Rattle.ca_grammar.specs.Words.{is_left_out, is_library_word, is_one_of, is_reserved, kept_keywords, library_words, plain_left_out, reserved_names, underscored_left_out};
 
 fn is_kept_keyword(word: &[u8]) -> bool
     ensures { result ≡ is_one_of kept_keywords word.now }
@@ -85,4 +85,25 @@ pub(crate) fn is_reserved(word: &[u8]) -> bool
     ensures { result ≡ is_reserved word.now }
 {
     is_kept_keyword(word) || is_left_out(word) || is_reserved_name(word)
+}
+
+fn is_call_word(word: &[u8]) -> bool
+    ensures { result ≡ is_one_of library_words word.now }
+{
+    word == b"malloc".as_slice()
+        || word == b"free".as_slice()
+        || word == b"assert".as_slice()
+        || word == b"printf".as_slice()
+        || word == b"pthread_mutex_lock".as_slice()
+        || word == b"pthread_mutex_unlock".as_slice()
+        || word == b"pthread_create".as_slice()
+        || word == b"pthread_join".as_slice()
+}
+
+/// Whether a word calls a function of the library.
+#[tactic(auto, unfolding(ca_grammar::specs::Words::is_library_word))]
+pub(crate) fn is_library_word(word: &[u8]) -> bool
+    ensures { result ≡ is_library_word word.now }
+{
+    is_call_word(word)
 }

@@ -1,11 +1,11 @@
 //! Steps over one token: its place, what it tells, and the tokens behind it.
 
-ghost use Rattle.std.specs.Prelude.{◌≡◌, ◌∷◌, [], MatchOption};
-ghost use Rattle.ca_grammar.specs.Words.{The_mark, The_word, A_number, A_name, A_unary_operator, A_binary_operator, The_end, Takes, Lacks};
-ghost use Rattle.ca_grammar.specs.Words.{unary_operator as unary_operator_of, binary_operator as binary_operator_of, level as level_of};
+ghost use Rattle.std.specs.Prelude.{◌≡◌, ◌≤ℤ◌, pos, ◌∷◌, [], IfSome, MatchOption};
+ghost use Rattle.ca_grammar.specs.Words.{The_mark, The_word, A_number, A_string, A_name, A_name_of_the_source, A_unary_operator, A_binary_operator, An_update_operator, A_step_operator, The_end, Takes, Lacks};
+ghost use Rattle.ca_grammar.specs.Words.{unary_operator as unary_operator_of, binary_operator as binary_operator_of, level as level_of, update_operator as update_operator_of, step_operator as step_operator_of};
 
-use crate::reserved::is_reserved;
-use ca_tree::tree::{BinaryOp, UnaryOp};
+use crate::reserved::{is_library_word, is_reserved};
+use ca_tree::tree::{BinaryOp, UnaryOp, UpdateOp};
 use ca_tree::{Mark, Pos, Text, Token, Word};
 
 /// This mark.
@@ -40,11 +40,27 @@ pub(crate) fn word<'t>(text: &[u8], tokens: &'t [Token]) -> Option<(Pos, &'t [To
 
 /// A number, with its value.
 pub(crate) fn number(tokens: &[Token]) -> Option<(Pos, i32, &[Token])>
-    ensures { MatchOption result (Lacks A_number tokens.now) (λ x. Takes A_number tokens.now x.0 x.1 x.2.now) }
+    ensures takes { MatchOption result (Lacks A_number tokens.now) (λ x. Takes A_number tokens.now x.0 x.1 x.2.now) }
+    ensures natural { IfSome result (λ x. pos 0 ≤ℤ x.1) }
 {
     let (token, rest) = tokens.split_first()?;
     match &token.word {
-        Word::Number(value) => Some((token.pos, *value, rest)),
+        Word::Number(value) => if *value >= 0 {
+            Some((token.pos, *value, rest))
+        } else {
+            None
+        },
+        _ => None,
+    }
+}
+
+/// A string, with its bytes.
+pub(crate) fn string(tokens: &[Token]) -> Option<(Pos, &Text, &[Token])>
+    ensures { MatchOption result (Lacks A_string tokens.now) (λ x. Takes A_string tokens.now x.0 x.1.now x.2.now) }
+{
+    let (token, rest) = tokens.split_first()?;
+    match &token.word {
+        Word::Str(text) => Some((token.pos, text, rest)),
         _ => None,
     }
 }
@@ -56,6 +72,21 @@ pub(crate) fn name(tokens: &[Token]) -> Option<(Pos, &Text, &[Token])>
     let (token, rest) = tokens.split_first()?;
     match &token.word {
         Word::Name(text) => if is_reserved(text.as_slice()) {
+            None
+        } else {
+            Some((token.pos, text, rest))
+        },
+        _ => None,
+    }
+}
+
+/// A name that is not reserved and calls no function of the library.
+pub(crate) fn name_of_the_source(tokens: &[Token]) -> Option<(Pos, &Text, &[Token])>
+    ensures { MatchOption result (Lacks A_name_of_the_source tokens.now) (λ x. Takes A_name_of_the_source tokens.now x.0 x.1.now x.2.now) }
+{
+    let (token, rest) = tokens.split_first()?;
+    match &token.word {
+        Word::Name(text) => if is_reserved(text.as_slice()) || is_library_word(text.as_slice()) {
             None
         } else {
             Some((token.pos, text, rest))
@@ -131,6 +162,47 @@ pub(crate) fn binary_operator(level: u32, tokens: &[Token]) -> Option<(Pos, Bina
     } else {
         None
     }
+}
+
+fn update_operator_of(word: &Word) -> Option<UpdateOp>
+    ensures { result ≡ update_operator_of word.now }
+{
+    match word {
+        Word::Mark(Mark::PlusAssign) => Some(UpdateOp::Add),
+        Word::Mark(Mark::MinusAssign) => Some(UpdateOp::Sub),
+        Word::Mark(Mark::StarAssign) => Some(UpdateOp::Mul),
+        Word::Mark(Mark::SlashAssign) => Some(UpdateOp::Div),
+        Word::Mark(Mark::PercentAssign) => Some(UpdateOp::Rem),
+        _ => None,
+    }
+}
+
+/// An operator of an assignment that reads its target first.
+pub(crate) fn update_operator(tokens: &[Token]) -> Option<(Pos, UpdateOp, &[Token])>
+    ensures { MatchOption result (Lacks An_update_operator tokens.now) (λ x. Takes An_update_operator tokens.now x.0 x.1 x.2.now) }
+{
+    let (token, rest) = tokens.split_first()?;
+    let operator = update_operator_of(&token.word)?;
+    Some((token.pos, operator, rest))
+}
+
+fn step_operator_of(word: &Word) -> Option<UpdateOp>
+    ensures { result ≡ step_operator_of word.now }
+{
+    match word {
+        Word::Mark(Mark::Increment) => Some(UpdateOp::Add),
+        Word::Mark(Mark::Decrement) => Some(UpdateOp::Sub),
+        _ => None,
+    }
+}
+
+/// `++` or `--`.
+pub(crate) fn step_operator(tokens: &[Token]) -> Option<(Pos, UpdateOp, &[Token])>
+    ensures { MatchOption result (Lacks A_step_operator tokens.now) (λ x. Takes A_step_operator tokens.now x.0 x.1 x.2.now) }
+{
+    let (token, rest) = tokens.split_first()?;
+    let operator = step_operator_of(&token.word)?;
+    Some((token.pos, operator, rest))
 }
 
 /// The end of the text.

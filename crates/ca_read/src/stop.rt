@@ -14,6 +14,8 @@ pub(crate) enum Stop<'t> {
     At(&'t [Token]),
     /// With the first of these tokens a limit is exceeded.
     Over(Counted, &'t [Token]),
+    /// The first of these tokens shows that the result of a function, named before it, is a struct without a star.
+    Starless(&'t [Token]),
     /// An allocation was refused.
     NoMemory,
 }

@@ -14,7 +14,7 @@ fn text_of(text: &Text) -> &str {
 
 // An expression in prefix form, with its parts.
 #[cycle(shown)]
-fn shown(alloc: Global, exp: &Exp) -> Result<String, AllocError> {
+pub(crate) fn shown(alloc: Global, exp: &Exp) -> Result<String, AllocError> {
     match exp {
         Exp::Number(_, value) => format!(in alloc; "{value}"),
         Exp::Null(_) => format!(in alloc; "NULL"),
@@ -200,7 +200,7 @@ fn a_text_that_is_cut_or_changed_has_its_fault_there(rt: HostRuntime) -> Result<
 }
 
 // Some bytes, others a number of times, and others again.
-fn repeated(
+pub(crate) fn repeated(
     alloc: Global,
     front: &[u8],
     middle: &[u8],

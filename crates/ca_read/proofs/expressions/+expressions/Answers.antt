@@ -1,7 +1,8 @@
 use Rattle.std.proofs.Common.{◌-◌, length, refl, ap, arith}
 use Rattle.std.proofs.lemmas.Result.{err_from_is_err_and}
 use Rattle.ca_grammar.specs.declared.operand.Operand.{Operand}
-use Rattle.ca_grammar.specs.Plan.{Postfix, Level, No, takes, overs, passes, wants, misses, gives, calls, fails}
+use Rattle.ca_grammar.specs.Goals.{Postfix, Level}
+use Rattle.ca_grammar.specs.Reads.{No, takes, overs, passes, wants, misses, gives, calls, fails}
 use Rattle.ca_read.proofs.Onward.{pass, begins_level, fails_level, operator_over, operand_fails, operand_read, operators_end, begins_postfix, postfix_over, postfix_fails, postfix_read, postfixes_end, index_read, field_read, arrow_read, read_as, into_parentheses, parentheses_over, operand_depth, fits_inside}
 use Rattle.ca_read.proofs.expressions.+expressions.Goals as goal
 

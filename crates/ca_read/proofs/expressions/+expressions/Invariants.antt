@@ -1,5 +1,7 @@
 use Rattle.std.proofs.Common.{length, ◌+◌, ◌*◌, ◌<◌, ◌≤◌, ◌&&◌}
-use Rattle.ca_grammar.specs.Plan.{Postfixes, Postfix, Operators, Level, plan, one_more}
+use Rattle.ca_grammar.specs.Goals.{Postfixes, Postfix, Operators, Level}
+use Rattle.ca_grammar.specs.Reads.{plan}
+use Rattle.ca_grammar.specs.ExpressionPlans.{one_more}
 use Rattle.ca_read.specs.Reading.{Onward}
 use Rattle.ca_read.proofs.expressions.+expressions.Given as goal
 

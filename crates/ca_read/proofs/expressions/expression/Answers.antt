@@ -1,5 +1,6 @@
 use Rattle.std.proofs.Common.{false}
-use Rattle.ca_grammar.specs.Plan.{Level, Expression, calls, fails, gives}
+use Rattle.ca_grammar.specs.Goals.{Level, Expression}
+use Rattle.ca_grammar.specs.Reads.{calls, fails, gives}
 use Rattle.ca_read.proofs.Onward.{read_as}
 use Rattle.ca_read.proofs.expressions.expression.Goals as goal
 

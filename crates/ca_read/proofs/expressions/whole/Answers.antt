@@ -1,6 +1,6 @@
 use Rattle.std.proofs.Common.{refl}
 use Rattle.std.proofs.lemmas.Result.{err_from_is_err_and}
-use Rattle.ca_grammar.specs.Plan.{wants, misses, gives, calls, fails}
+use Rattle.ca_grammar.specs.Reads.{wants, misses, gives, calls, fails}
 use Rattle.ca_read.proofs.Onward.{pass}
 use Rattle.ca_read.proofs.expressions.whole.Goals as goal
 

@@ -1,6 +1,6 @@
 use Rattle.std.proofs.Common.{◌≡◌, drop}
 use Rattle.ca_grammar.specs.Limits.{the_limits}
-use Rattle.ca_grammar.specs.Plan.{first_exceeded}
+use Rattle.ca_grammar.specs.Reads.{first_exceeded}
 use Rattle.ca_read.proofs.limits.first_exceeded.Given as goal
 
 abbrev pub invariant-loop-count : goal.invariant-loop-count

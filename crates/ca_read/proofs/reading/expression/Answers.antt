@@ -1,41 +1,34 @@
-use Rattle.std.proofs.Common.{inl, ap}
-use Rattle.ca_read.specs.declared.reading.ReadNo.TheVariants.{Fault}
+use Rattle.ca_grammar.specs.Texts.{AnExpression}
+use Rattle.ca_grammar.specs.Laws.{all_kept}
+use Rattle.ca_grammar.proofs.AllGoals.{back, sample}
+use Rattle.ca_grammar.proofs.ExpressionTheory.{reads_whole}
+use Rattle.ca_grammar.proofs.Wholes.{an_expression}
 use Rattle.ca_grammar.proofs.Exact.{read_spells}
-use Rattle.ca_read.proofs.WholeTexts.{stopped_at, stopped_over, stop_some, stop_short, stop_unknown, stop_over, only_one, none_beside, one_beside}
+use Rattle.ca_grammar.proofs.OneExpression.{one_expression}
+use Rattle.ca_grammar.proofs.OneFault.{no_fault}
+use Rattle.ca_grammar.proofs.Spreading.{expression_spreads}
+use Rattle.ca_read.proofs.WholeTexts.{is_left, refused, no_text, same_fault}
 use Rattle.ca_read.proofs.reading.expression.Goals as goal
 
-pub unknown-requires-clause-left : goal.unknown-requires-clause-left
-unknown-requires-clause-left c = stop_some (stopped_at c.args.tokens.now c.in-Err-At.field-0 c.in-Err-At.rest c.in-Err-At.ensures c.in-Err-At.field-0-is) c.requires
-
-pub unknown-requires-clause-fits : goal.unknown-requires-clause-fits
-unknown-requires-clause-fits c = stop_short (stopped_at c.args.tokens.now c.in-Err-At.field-0 c.in-Err-At.rest c.in-Err-At.ensures c.in-Err-At.field-0-is)
-
-pub exceeding-requires : goal.exceeding-requires
-exceeding-requires c = stop_some (stopped_over c.args.tokens.now c.in-Err-Over.field-0 c.in-Err-Over.limit c.in-Err-Over.rest c.in-Err-Over.ensures c.in-Err-Over.field-0-is).1 c.requires
+pub refusal-requires : goal.refusal-requires
+refusal-requires c = is_left an_expression c.args.tokens.now c.in-Err.stop c.in-Err.ensures c.requires
 
 pub returns-in-Ok-clause-spelled : goal.returns-in-Ok-clause-spelled
-returns-in-Ok-clause-spelled c = read_spells c.in-Ok.ensures c.requires
+returns-in-Ok-clause-spelled c = read_spells back sample an_expression c.in-Ok.ensures c.requires
 
 pub returns-in-Ok-clause-found : goal.returns-in-Ok-clause-found
-returns-in-Ok-clause-found c = only_one (read_spells c.in-Ok.ensures c.requires)
+returns-in-Ok-clause-found c a h = one_expression back sample reads_whole all_kept c.args.tokens.now c.in-Ok.found a (read_spells back sample an_expression c.in-Ok.ensures c.requires) h
 
 pub returns-in-Ok-clause-refused : goal.returns-in-Ok-clause-refused
-returns-in-Ok-clause-refused c = none_beside (read_spells c.in-Ok.ensures c.requires)
+returns-in-Ok-clause-refused c f h =
+    no_fault AnExpression expression_spreads c.args.tokens.now f (c.in-Ok.found, read_spells back sample an_expression c.in-Ok.ensures c.requires) h
 
-pub returns-in-Err-At-clause-fault : goal.returns-in-Err-At-clause-fault
-returns-in-Err-At-clause-fault c = stop_unknown (stopped_at c.args.tokens.now c.in-Err-At.field-0 c.in-Err-At.rest c.in-Err-At.ensures c.in-Err-At.field-0-is) c.requires c.unknown.ensures.pos c.unknown.ensures.kind
+pub returns-in-Err-clause-fault : goal.returns-in-Err-clause-fault
+returns-in-Err-clause-fault c = refused an_expression c.args.tokens.now c.in-Err.stop c.refusal.result c.in-Err.ensures c.requires c.refusal.ensures
 
-pub returns-in-Err-At-clause-found : goal.returns-in-Err-At-clause-found
-returns-in-Err-At-clause-found c a h = absurd (none_beside h c.unknown.result (stop_unknown (stopped_at c.args.tokens.now c.in-Err-At.field-0 c.in-Err-At.rest c.in-Err-At.ensures c.in-Err-At.field-0-is) c.requires c.unknown.ensures.pos c.unknown.ensures.kind))
+pub returns-in-Err-clause-found : goal.returns-in-Err-clause-found
+returns-in-Err-clause-found c a h = no_text AnExpression expression_spreads c.args.tokens.now c.refusal.result (refused an_expression c.args.tokens.now c.in-Err.stop c.refusal.result c.in-Err.ensures c.requires c.refusal.ensures) (a, h)
 
-pub returns-in-Err-At-clause-refused : goal.returns-in-Err-At-clause-refused
-returns-in-Err-At-clause-refused c f h = inl (ap (λ g. Fault g) (one_beside (stop_unknown (stopped_at c.args.tokens.now c.in-Err-At.field-0 c.in-Err-At.rest c.in-Err-At.ensures c.in-Err-At.field-0-is) c.requires c.unknown.ensures.pos c.unknown.ensures.kind) f h))
-
-pub returns-in-Err-Over-clause-fault : goal.returns-in-Err-Over-clause-fault
-returns-in-Err-Over-clause-fault c = stop_over (stopped_over c.args.tokens.now c.in-Err-Over.field-0 c.in-Err-Over.limit c.in-Err-Over.rest c.in-Err-Over.ensures c.in-Err-Over.field-0-is) c.requires c.exceeding.ensures.pos c.exceeding.ensures.kind
-
-pub returns-in-Err-Over-clause-found : goal.returns-in-Err-Over-clause-found
-returns-in-Err-Over-clause-found c a h = absurd (none_beside h c.exceeding.result (stop_over (stopped_over c.args.tokens.now c.in-Err-Over.field-0 c.in-Err-Over.limit c.in-Err-Over.rest c.in-Err-Over.ensures c.in-Err-Over.field-0-is) c.requires c.exceeding.ensures.pos c.exceeding.ensures.kind))
-
-pub returns-in-Err-Over-clause-refused : goal.returns-in-Err-Over-clause-refused
-returns-in-Err-Over-clause-refused c f h = inl (ap (λ g. Fault g) (one_beside (stop_over (stopped_over c.args.tokens.now c.in-Err-Over.field-0 c.in-Err-Over.limit c.in-Err-Over.rest c.in-Err-Over.ensures c.in-Err-Over.field-0-is) c.requires c.exceeding.ensures.pos c.exceeding.ensures.kind) f h))
+pub returns-in-Err-clause-refused : goal.returns-in-Err-clause-refused
+returns-in-Err-clause-refused c f h =
+    same_fault AnExpression expression_spreads c.args.tokens.now c.refusal.result (refused an_expression c.args.tokens.now c.in-Err.stop c.refusal.result c.in-Err.ensures c.requires c.refusal.ensures) f h

@@ -1,0 +1,17 @@
+use Rattle.std.proofs.Common.{◌≤◌, ◌++◌, length}
+use Rattle.ca_grammar.specs.DeclarationPlans.{totalled}
+use Rattle.ca_grammar.specs.Goals.{Threads}
+use Rattle.ca_grammar.specs.Reads.{plan}
+use Rattle.ca_read.specs.Reading.{Onward}
+use Rattle.ca_read.specs.Declaring.{totals_of, AreWithin}
+use Rattle.ca_read.proofs.globals.threads.Given as goal
+
+abbrev pub invariant-declarators : goal.invariant-declarators
+invariant-declarators l = record {
+  at : Onward (Threads (totals_of l.totals)) (Threads (totals_of l.fn.totals)) (λ m. totalled (l.all.items ++ m.what) m.totals) (plan (Threads (totals_of l.fn.totals))) l.rest l.tokens;
+  shorter : length l.rest ≤ length l.tokens;
+  within : AreWithin l.totals;
+}
+
+abbrev pub decreases-declarators : goal.decreases-declarators
+decreases-declarators l = length l.rest
