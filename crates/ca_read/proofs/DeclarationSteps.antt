@@ -1,9 +1,8 @@
 -- Steps of the readers of declarations.
-use Rattle.std.proofs.Common.{◌≡◌, ℕ, ℤ, suc, ◌+◌, ◌≤◌, ◌<◌, Bool, true, false, List, [], ◌∷◌, ◌++◌, length, Option, Some, None, Result, Ok, Err, refl, sym, ap, subst, arith, append_assoc}
-use Rattle.std.specs.Prelude.{if◌then◌else◌, codes}
+use Rattle.std.proofs.Common.{◌≡◌, ℕ, ℤ, suc, ◌+◌, ◌≤◌, ◌<◌, Bool, true, false, List, [], ◌∷◌, ◌++◌, length, Option, Some, None, Result, Ok, Err, refl, sym, ap, subst, append_assoc}
+use Rattle.std.specs.Prelude.{codes}
 use Rattle.std.specs.Borrow.{Bor}
 use Rattle.std.proofs.lemmas.Bool.{lt-leb, le-leb}
-use Rattle.std.proofs.lemmas.Bool.Decides.{nat_tests}
 use Rattle.ca_tree.specs.declared.text.Pos.{Pos}
 use Rattle.ca_tree.specs.declared.token.Mark.{Mark}
 use Rattle.ca_tree.specs.declared.token.Mark.TheVariants as mark
@@ -23,34 +22,21 @@ use Rattle.ca_tree.specs.declared.tree.ParameterType.{ParameterType}
 use Rattle.ca_tree.specs.declared.tree.Parameter.{Parameter}
 use Rattle.ca_tree.specs.declared.tree.Top.{Top}
 use Rattle.ca_grammar.specs.declared.faults.Count.{Count}
-use Rattle.ca_grammar.specs.declared.faults.Counted.{Counted}
 use Rattle.ca_grammar.specs.declared.faults.Counted.TheVariants.{Fields as Field_count}
 use Rattle.ca_grammar.specs.Words.{The_word, A_name, Takes, Lacks, assign, close_brace}
 use Rattle.ca_grammar.specs.Expressions.{name}
-use Rattle.ca_grammar.specs.Limits.{Rule, Limit, Star, the_limits, within, most}
+use Rattle.ca_grammar.specs.Limits.{Rule, Star, the_limits}
 use Rattle.ca_grammar.specs.Declarations.{Totals, one_more_mutex, one_more_global, nothing_yet}
 use Rattle.ca_grammar.specs.Goals.{Goal, Tree, Starred, Stars, Starred_name, Base_at, Mutexes, Threads, A_constant, Behind_global, More_globals, Next_global, Field_declarators, A_field, Behind_type, More_parameters, Next_parameter, Behind_base, Behind_tag, Qualified, A_top, Tops}
 use Rattle.ca_grammar.specs.Plan.{Plan, give, take, want, call, last, these, and_name, bytes_of_name, counted}
 use Rattle.ca_grammar.specs.PhrasePlans.{behind_star, must, maybe}
 use Rattle.ca_grammar.specs.DeclarationPlans.{totalled, global, a_global, a_parameter, some_top}
 use Rattle.ca_grammar.specs.Reads.{plan, Outcome, Yes, No, Reads, exceeded, gives, takes, overs, passes, wants, calls, fails}
-use Rattle.ca_read.specs.declared.stop.Stop.{Stop}
-use Rattle.ca_read.specs.Reading.{IsExceeded, StopsIn, Stops, Reading, Onward}
+use Rattle.ca_expressions.specs.declared.stop.Stop.{Stop}
+use Rattle.ca_expressions.specs.Reading.{StopsIn, Stops, Reading, Onward}
 use Rattle.ca_read.specs.Declaring.{comma_or, Separated, OneOf, sized, IsValued, AType}
-use Rattle.ca_read.proofs.Onward.{pass}
-
-at_kept : (b : Bool) (r : Rule) (x y : Option Rule) → (x ≡ None → y ≡ None) → (if b then x else Some r) ≡ None → (if b then y else Some r) ≡ None
-at_kept true r x y f e = f e
-at_kept false r x y f e = absurd cc
-
--- what is counted with a name is within its limits
-pub kept_with_name : (cs : List Count) (t : List ℕ) → IsExceeded (and_name cs t) None None → IsExceeded cs None None
-kept_with_name [] t e = refl
-kept_with_name (c ∷ cs) t e = at_kept (within (the_limits (Limit c.of)) c.number) (Limit c.of) _ _ (kept_with_name cs t) e
-
--- and so is the next of a kind
-pub kept_next : (of : Counted) (n : ℕ) → IsExceeded (counted of (suc n) ∷ []) None None → suc n ≤ most of
-kept_next of n e = grind (arith, nat_tests)
+use Rattle.ca_expressions.proofs.Counts.{kept_next, kept_with_name}
+use Rattle.ca_expressions.proofs.Following.{pass}
 
 -- Where r is read, q is on its way, and where q is read, g is.
 pub onward_after : {q g r : Goal} {k : Plan g} (f : Tree q → Tree g) (h : Tree r → Tree q) (e : Tree r → Tree g) (us vs ts : List Token) → ((a : Tree r) → f (h a) ≡ e a) → Onward q g f k us ts

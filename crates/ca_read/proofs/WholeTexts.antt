@@ -12,12 +12,12 @@ use Rattle.ca_grammar.proofs.AllGoals.{back, sample}
 use Rattle.ca_grammar.proofs.LocalReading.{local}
 use Rattle.ca_grammar.proofs.Exact.{IsWholeText, SomeText, fault_unknown, fault_broken, fault_has_next}
 use Rattle.ca_grammar.proofs.OneFault.{no_fault, one_fault}
-use Rattle.ca_read.specs.declared.stop.Stop.{Stop}
-use Rattle.ca_read.specs.declared.stop.Stop.TheVariants.{At, Over, Starless}
-use Rattle.ca_read.specs.declared.stop.Stop.TheVariants as stop
+use Rattle.ca_expressions.specs.declared.stop.Stop.{Stop}
+use Rattle.ca_expressions.specs.declared.stop.Stop.TheVariants.{At, Over, Starless}
+use Rattle.ca_expressions.specs.declared.stop.Stop.TheVariants as stop
 use Rattle.ca_read.specs.declared.reading.ReadNo.{ReadNo}
 use Rattle.ca_read.specs.declared.reading.ReadNo.TheVariants as no
-use Rattle.ca_read.specs.Reading.{Stops}
+use Rattle.ca_expressions.specs.Reading.{Stops}
 use Rattle.ca_read.specs.Outcomes.{IfFault, IsLeft, IsRefusal}
 
 some_left : (us : List Token) (next : Token) → first us ≡ Some next → 0 < length us

@@ -24,9 +24,9 @@ use Rattle.ca_grammar.specs.Plan.{Plan, take, want, call, no_counts, these, and_
 use Rattle.ca_grammar.specs.PhrasePlans.{must, maybe}
 use Rattle.ca_grammar.specs.DeclarationPlans.{totalled, global, behind_int, behind_struct}
 use Rattle.ca_grammar.specs.Reads.{plan, Outcome, Yes, Reads}
-use Rattle.ca_read.specs.declared.stop.Stop.{Stop}
+use Rattle.ca_expressions.specs.declared.stop.Stop.{Stop}
 use Rattle.ca_read.specs.declared.totals.Totals.{Totals as Counted_totals}
-use Rattle.ca_read.specs.Reading.{StopsIn, Stops, Onward}
+use Rattle.ca_expressions.specs.Reading.{StopsIn, Stops, Onward}
 
 abbrev pub totals_of : Counted_totals → Totals
 totals_of t = record { items = t.items; functions = t.functions; globals = t.globals; mutexes = t.mutexes; structs = t.structs }

@@ -5,9 +5,9 @@ use Rattle.ca_grammar.specs.declared.faults.ReadFault.{ReadFault}
 use Rattle.ca_grammar.specs.declared.faults.ReadKind.TheVariants.{Grammar, TooMany}
 use Rattle.ca_grammar.specs.Limits.{Rule, Star}
 use Rattle.ca_grammar.specs.Faults.{first, latest, is_name, kind_at, kind_of, place_of}
-use Rattle.ca_read.specs.declared.stop.Stop.{Stop}
-use Rattle.ca_read.specs.declared.stop.Stop.TheVariants.{At, Over, Starless}
-use Rattle.ca_read.specs.declared.stop.Stop.TheVariants as stop
+use Rattle.ca_expressions.specs.declared.stop.Stop.{Stop}
+use Rattle.ca_expressions.specs.declared.stop.Stop.TheVariants.{At, Over, Starless}
+use Rattle.ca_expressions.specs.declared.stop.Stop.TheVariants as stop
 use Rattle.ca_read.specs.declared.reading.ReadNo.{ReadNo}
 use Rattle.ca_read.specs.declared.reading.ReadNo.TheVariants as no
 

@@ -7,7 +7,7 @@ ghost use Rattle.ca_grammar.specs.Limits.{Rule, Star};
 ghost use Rattle.ca_grammar.specs.Faults.{first, latest as latest_of, is_name, is_open_paren, before_parenthesis as before_parenthesis_of, or_first, place_of, kind_of, is_name_word as is_name_word_of, is_left_out_mark as is_left_out_mark_of, kind_at_mark as kind_at_mark_of, kind_at as kind_at_of};
 ghost use Rattle.ca_read.specs.Places.{IsPosOf};
 
-use crate::reserved::{is_left_out, is_reserved};
+use ca_expressions::reserved::{is_left_out, is_reserved};
 use ca_grammar::{Counted, LeftOut, ReadFault, ReadKind};
 use ca_tree::{Mark, Pos, Token, Word};
 

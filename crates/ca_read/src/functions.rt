@@ -3,17 +3,17 @@
 ghost use Rattle.std.specs.Prelude.{◌≡◌, ◌<◌, ◌≤◌, ℕ, length, IfOk};
 ghost use Rattle.ca_tree.specs.declared.tree.ParameterType.{ParameterType};
 ghost use Rattle.ca_grammar.specs.Goals.{Behind_type, Parameters, Body_of, Function_of, Behind_paren};
-ghost use Rattle.ca_read.specs.Reading.{Reading};
+ghost use Rattle.ca_expressions.specs.Reading.{Reading};
 ghost use Rattle.ca_read.specs.Declaring.{totals_of, AreWithin, IsValued, AType, AParameterName};
 
-use crate::limits::{exceeded, exceeded_by_name};
-use crate::names::{named, wanted_name};
-use crate::statements::statements;
-use crate::steps::{mark, name, word};
-use crate::stop::Stop;
 use crate::totals::{Totals, comma_or, next, one_more_function};
-use crate::types::{more_stars, stars};
+use ca_expressions::limits::{exceeded, exceeded_by_name};
+use ca_expressions::names::{named, wanted_name};
+use ca_expressions::steps::{mark, name, word};
+use ca_expressions::stop::Stop;
 use ca_grammar::Counted;
+use ca_phrases::types::{more_stars, stars};
+use ca_statements::statements::statements;
 use ca_tree::tree::{
     Base, Body, Function, ItemAt, Name, Parameter, ParameterType, ResultType, Type,
 };

@@ -5,14 +5,14 @@ ghost use Rattle.ca_tree.specs.declared.tree.Base.{Base};
 ghost use Rattle.ca_tree.specs.declared.tree.Name.{Name};
 ghost use Rattle.ca_grammar.specs.DeclarationPlans.{a_global};
 ghost use Rattle.ca_grammar.specs.Goals.{Mutexes, Threads, A_constant, Behind_global};
-ghost use Rattle.ca_read.specs.Reading.{Reading, IsExceeded};
+ghost use Rattle.ca_expressions.specs.Reading.{Reading, IsExceeded};
 ghost use Rattle.ca_read.specs.Declaring.{totals_of, AreWithin, Initializes, AMutex, Sizes, AThread, AForm};
 
-use crate::limits::exceeded;
-use crate::names::wanted_name;
-use crate::steps::{mark, number, word};
-use crate::stop::Stop;
 use crate::totals::{Totals, comma_or, next, one_more_global, one_more_mutex, stars_and_name};
+use ca_expressions::limits::exceeded;
+use ca_expressions::names::wanted_name;
+use ca_expressions::steps::{mark, number, word};
+use ca_expressions::stop::Stop;
 use ca_grammar::{Count, Counted};
 use ca_tree::tree::{
     Constant, GlobalDeclarator, GlobalForm, MutexDeclarator, Name, ThreadDeclarator,

@@ -11,10 +11,10 @@ ghost use Rattle.ca_grammar.specs.Faults.{IsFault};
 ghost use Rattle.ca_grammar.specs.Laws.{all_kept};
 ghost use Rattle.ca_read.specs.Outcomes.{IfFault, IsLeft, IsRefusal};
 
-use crate::expressions::whole;
 use crate::faults::{exceeding, starless, unknown};
-use crate::stop::Stop;
 use crate::tops;
+use ca_expressions::expressions::whole;
+use ca_expressions::stop::Stop;
 use ca_grammar::{Operand, ReadFault};
 use ca_tree::Token;
 use ca_tree::tree::Program;

@@ -2,13 +2,13 @@
 
 ghost use Rattle.std.specs.Prelude.{◌≡◌, ◌<◌, ◌≤◌, ◌+◌, length, IfOk};
 ghost use Rattle.ca_grammar.specs.Goals.{Field_declarators, A_field};
-ghost use Rattle.ca_read.specs.Reading.{Reading};
+ghost use Rattle.ca_expressions.specs.Reading.{Reading};
 
-use crate::steps::mark;
-use crate::stop::Stop;
 use crate::totals::{comma_or, next};
-use crate::types::{base, starred_name};
+use ca_expressions::steps::mark;
+use ca_expressions::stop::Stop;
 use ca_grammar::Counted;
+use ca_phrases::types::{base, starred_name};
 use ca_tree::tree::{Base, Declarator, Fields};
 use ca_tree::{Listed, Mark, Token};
 use std::alloc::Global;

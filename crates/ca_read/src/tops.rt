@@ -4,17 +4,17 @@ ghost use Rattle.std.specs.Prelude.{◌≡◌, ◌<◌, ◌≤◌, length, IfOk,
 ghost use Rattle.ca_tree.specs.declared.tree.ResultType.TheVariants.{Value};
 ghost use Rattle.ca_grammar.specs.Declarations.{stars_missing, nothing_yet as nothing_of};
 ghost use Rattle.ca_grammar.specs.Goals.{Behind_base, Behind_void, Qualified, Behind_tag, A_top, Tops, A_program};
-ghost use Rattle.ca_read.specs.Reading.{Reading};
+ghost use Rattle.ca_expressions.specs.Reading.{Reading};
 ghost use Rattle.ca_read.specs.Declaring.{totals_of, AreWithin, Declares, Qualifies};
 
 use crate::functions::{behind_paren, function};
 use crate::globals::{globals, mutexes, threads};
-use crate::limits::exceeded;
-use crate::names::wanted_name;
-use crate::steps::{end, mark, word};
-use crate::stop::Stop;
 use crate::structs::fields;
 use crate::totals::{Totals, next, nothing_yet, one_more_struct, stars_and_name};
+use ca_expressions::limits::exceeded;
+use ca_expressions::names::wanted_name;
+use ca_expressions::steps::{end, mark, word};
+use ca_expressions::stop::Stop;
 use ca_grammar::Counted;
 use ca_tree::tree::{Base, Globals, Name, Program, ResultType, Struct, Top, Type};
 use ca_tree::{Listed, Mark, Token};

@@ -3,15 +3,15 @@
 ghost use Rattle.std.specs.Prelude.{◌≡◌, ◌<◌, ◌≤◌, ℕ, ◌^◌, suc, length, IfOk, None};
 ghost use Rattle.ca_grammar.specs.Plan.{counted};
 ghost use Rattle.ca_grammar.specs.Declarations.{nothing_yet as nothing_of, one_more_global as one_more_global_of, one_more_mutex as one_more_mutex_of, one_more_struct as one_more_struct_of, one_more_function as one_more_function_of};
-ghost use Rattle.ca_read.specs.Reading.{IsExceeded};
+ghost use Rattle.ca_expressions.specs.Reading.{IsExceeded};
 ghost use Rattle.ca_read.specs.Declaring.{totals_of, AreWithin, StarsAndName, Separates};
 
-use crate::limits::exceeded;
-use crate::names::wanted_name;
-use crate::steps::mark;
-use crate::stop::Stop;
-use crate::types::stars;
+use ca_expressions::limits::exceeded;
+use ca_expressions::names::wanted_name;
+use ca_expressions::steps::mark;
+use ca_expressions::stop::Stop;
 use ca_grammar::{Count, Counted};
+use ca_phrases::types::stars;
 use ca_tree::tree::Name;
 use ca_tree::{Mark, Token};
 use std::alloc::Global;

@@ -1,6 +1,11 @@
 //! The program: its arguments are the words of a command.
 #![tactic(auto)]
 
+#[cfg(test)]
+mod expression_tests;
+#[cfg(test)]
+mod program_tests;
+
 use ca_cmd::{command_alone, out_of_memory};
 use ca_io::{HostFiles, HostSink};
 use std::alloc::Global;

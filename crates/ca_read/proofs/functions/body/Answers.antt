@@ -1,7 +1,7 @@
 use Rattle.std.proofs.Common.{◌≡◌, ◌+◌, suc, refl, arith}
 use Rattle.std.proofs.lemmas.Result.{err_from_is_err_and}
 use Rattle.ca_grammar.specs.Reads.{takes, passes, wants, exceeds, misses, calls, fails, gives}
-use Rattle.ca_read.proofs.Onward.{pass}
+use Rattle.ca_expressions.proofs.Following.{pass}
 use Rattle.ca_read.proofs.functions.body.Goals as goal
 
 pub returns-in-Some-clause-reads : goal.returns-in-Some-clause-reads

@@ -3,7 +3,7 @@ use Rattle.std.proofs.lemmas.Result.{err_from_is_err_and}
 use Rattle.ca_tree.specs.declared.token.Mark.TheVariants.{CloseParen}
 use Rattle.ca_grammar.specs.Goals.{Behind_type, Next_parameter}
 use Rattle.ca_grammar.specs.Reads.{overs, passes}
-use Rattle.ca_read.proofs.Onward.{pass}
+use Rattle.ca_expressions.proofs.Following.{pass}
 use Rattle.ca_read.proofs.DeclarationSteps.{one_of, named_parameter, behind_name_fails}
 use Rattle.ca_read.proofs.functions.parameter_name.Goals as goal
 

@@ -4,7 +4,7 @@ use Rattle.ca_tree.specs.declared.tree.ParameterType.TheVariants.{Pointer}
 use Rattle.ca_grammar.specs.Goals.{Behind_type, Parameters}
 use Rattle.ca_grammar.specs.Plan.{last}
 use Rattle.ca_grammar.specs.Reads.{takes, passes, wants, misses, calls, fails, gives}
-use Rattle.ca_read.proofs.Onward.{pass}
+use Rattle.ca_expressions.proofs.Following.{pass}
 use Rattle.ca_read.proofs.DeclarationSteps.{read_from}
 use Rattle.ca_read.proofs.functions.parameters.Goals as goal
 

@@ -3,7 +3,7 @@ use Rattle.std.proofs.lemmas.Result.{err_from_is_err_and}
 use Rattle.ca_grammar.specs.Declarations.{one_more_global}
 use Rattle.ca_grammar.specs.Goals.{Next_global}
 use Rattle.ca_read.specs.Declaring.{totals_of}
-use Rattle.ca_read.proofs.Onward.{pass}
+use Rattle.ca_expressions.proofs.Following.{pass}
 use Rattle.ca_read.proofs.DeclarationSteps.{more_globals_of}
 use Rattle.ca_read.proofs.globals.globals.Goals as goal
 

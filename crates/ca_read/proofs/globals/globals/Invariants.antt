@@ -3,7 +3,7 @@ use Rattle.ca_tree.specs.declared.tree.Base.{Base}
 use Rattle.ca_grammar.specs.DeclarationPlans.{totalled}
 use Rattle.ca_grammar.specs.Goals.{Behind_global}
 use Rattle.ca_grammar.specs.Reads.{plan}
-use Rattle.ca_read.specs.Reading.{Onward}
+use Rattle.ca_expressions.specs.Reading.{Onward}
 use Rattle.ca_read.specs.Declaring.{totals_of, AreWithin}
 use Rattle.ca_read.proofs.globals.globals.Given as goal
 

@@ -2,7 +2,7 @@ use Rattle.std.proofs.Common.{◌≤◌, ◌++◌, length}
 use Rattle.ca_grammar.specs.DeclarationPlans.{totalled}
 use Rattle.ca_grammar.specs.Goals.{Mutexes}
 use Rattle.ca_grammar.specs.Reads.{plan}
-use Rattle.ca_read.specs.Reading.{Onward}
+use Rattle.ca_expressions.specs.Reading.{Onward}
 use Rattle.ca_read.specs.Declaring.{totals_of, AreWithin}
 use Rattle.ca_read.proofs.globals.mutexes.Given as goal
 

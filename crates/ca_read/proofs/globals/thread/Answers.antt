@@ -5,7 +5,7 @@ use Rattle.ca_grammar.specs.DeclarationPlans.{behind_thread}
 use Rattle.ca_grammar.specs.Goals.{Threads}
 use Rattle.ca_grammar.specs.Reads.{No}
 use Rattle.ca_read.specs.Declaring.{totals_of}
-use Rattle.ca_read.proofs.Onward.{pass}
+use Rattle.ca_expressions.proofs.Following.{pass}
 use Rattle.ca_read.proofs.DeclarationSteps.{one_of}
 use Rattle.ca_read.proofs.globals.thread.Goals as goal
 

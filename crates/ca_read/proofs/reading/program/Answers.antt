@@ -1,8 +1,7 @@
 use Rattle.ca_grammar.specs.Texts.{AProgram}
 use Rattle.ca_grammar.specs.Laws.{all_kept}
 use Rattle.ca_grammar.proofs.AllGoals.{back, sample}
-use Rattle.ca_grammar.proofs.Wholes.{program_reads}
-use Rattle.ca_grammar.proofs.Wholes.{a_program}
+use Rattle.ca_grammar.proofs.Wholes.{program_reads, a_program}
 use Rattle.ca_grammar.proofs.Exact.{read_spells}
 use Rattle.ca_grammar.proofs.OneExpression.{one_program}
 use Rattle.ca_grammar.proofs.OneFault.{no_fault}

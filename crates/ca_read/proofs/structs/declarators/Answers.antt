@@ -2,7 +2,7 @@ use Rattle.std.proofs.Common.{◌≡◌, ◌+◌, ◌∷◌, [], suc, true, fals
 use Rattle.std.proofs.lemmas.Result.{err_from_is_err_and}
 use Rattle.ca_grammar.specs.Goals.{Field_declarators}
 use Rattle.ca_grammar.specs.Reads.{calls, fails}
-use Rattle.ca_read.proofs.Onward.{pass}
+use Rattle.ca_expressions.proofs.Following.{pass}
 use Rattle.ca_read.proofs.DeclarationSteps.{field_fits, a_declarator, more_declarators}
 use Rattle.ca_read.proofs.structs.declarators.Goals as goal
 

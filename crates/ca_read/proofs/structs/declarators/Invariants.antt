@@ -1,7 +1,7 @@
 use Rattle.std.proofs.Common.{◌≡◌, ◌+◌, ◌≤◌, ◌++◌, length}
 use Rattle.ca_grammar.specs.Goals.{Field_declarators}
 use Rattle.ca_grammar.specs.Reads.{plan}
-use Rattle.ca_read.specs.Reading.{Onward}
+use Rattle.ca_expressions.specs.Reading.{Onward}
 use Rattle.ca_read.proofs.structs.declarators.Given as goal
 
 abbrev pub invariant-declarators : goal.invariant-declarators

@@ -1,7 +1,7 @@
 use Rattle.std.proofs.Common.{◌≤◌, ◌++◌, length}
 use Rattle.ca_grammar.specs.Goals.{A_field}
 use Rattle.ca_grammar.specs.Reads.{plan}
-use Rattle.ca_read.specs.Reading.{Onward}
+use Rattle.ca_expressions.specs.Reading.{Onward}
 use Rattle.ca_read.proofs.structs.fields.Given as goal
 
 abbrev pub invariant-fields : goal.invariant-fields

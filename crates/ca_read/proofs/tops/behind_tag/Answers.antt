@@ -4,12 +4,12 @@ use Rattle.ca_tree.specs.declared.tree.Base.TheVariants.{Struct}
 use Rattle.ca_grammar.specs.Goals.{Behind_base, Behind_tag}
 use Rattle.ca_grammar.specs.Reads.{takes, overs, passes, wants, misses, calls, fails, gives}
 use Rattle.ca_read.specs.Declaring.{totals_of}
-use Rattle.ca_read.proofs.Onward.{pass, read_as}
+use Rattle.ca_expressions.proofs.Following.{pass, read_on}
 use Rattle.ca_read.proofs.tops.behind_tag.Goals as goal
 
 pub returns-in_default-clause-reads : goal.returns-in_default-clause-reads
 returns-in_default-clause-reads c =
-    read_as (Behind_base (Struct c.args.name) (totals_of c.args.totals)) (Behind_tag c.args.name (totals_of c.args.totals)) _ _ c.args.tokens.now c.behind_base.result
+    read_on (Behind_base (Struct c.args.name) (totals_of c.args.totals)) (Behind_tag c.args.name (totals_of c.args.totals)) _ _ c.args.tokens.now c.args.tokens.now c.behind_base.result
     (λ x d. passes c.in_default.ensures (calls d gives)) (λ r vs d. passes c.in_default.ensures (fails d)) c.behind_base.ensures.reads
 
 pub returns-in-Some-exceeded-clause-reads : goal.returns-in-Some-exceeded-clause-reads

@@ -5,7 +5,7 @@ use Rattle.ca_grammar.specs.Goals.{Behind_base, Qualified}
 use Rattle.ca_grammar.specs.Plan.{give}
 use Rattle.ca_grammar.specs.Reads.{wants, misses, calls, fails, gives}
 use Rattle.ca_read.specs.Declaring.{totals_of}
-use Rattle.ca_read.proofs.Onward.{pass}
+use Rattle.ca_expressions.proofs.Following.{pass}
 use Rattle.ca_read.proofs.DeclarationSteps.{read_from, qualified_on, a_struct_or_none}
 use Rattle.ca_read.proofs.tops.qualified.Goals as goal
 

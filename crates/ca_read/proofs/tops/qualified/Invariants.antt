@@ -1,7 +1,7 @@
 use Rattle.std.proofs.Common.{◌≤◌, length}
 use Rattle.ca_grammar.specs.Goals.{Qualified}
 use Rattle.ca_grammar.specs.Reads.{plan}
-use Rattle.ca_read.specs.Reading.{Onward}
+use Rattle.ca_expressions.specs.Reading.{Onward}
 use Rattle.ca_read.specs.Declaring.{totals_of}
 use Rattle.ca_read.proofs.tops.qualified.Given as goal
 

@@ -4,7 +4,7 @@ use Rattle.ca_grammar.specs.DeclarationPlans.{some_top}
 use Rattle.ca_grammar.specs.Goals.{A_top}
 use Rattle.ca_grammar.specs.Reads.{takes, passes, calls, fails, gives}
 use Rattle.ca_read.specs.Declaring.{totals_of}
-use Rattle.ca_read.proofs.Onward.{pass}
+use Rattle.ca_expressions.proofs.Following.{pass}
 use Rattle.ca_read.proofs.DeclarationSteps.{a_struct_or_end}
 use Rattle.ca_read.proofs.tops.top.Goals as goal
 

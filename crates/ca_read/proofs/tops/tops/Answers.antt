@@ -2,7 +2,7 @@ use Rattle.std.proofs.Common.{arith, append-nil}
 use Rattle.std.proofs.lemmas.Result.{err_from_is_err_and}
 use Rattle.ca_grammar.specs.Reads.{calls, fails, gives}
 use Rattle.ca_read.specs.Declaring.{totals_of}
-use Rattle.ca_read.proofs.Onward.{pass}
+use Rattle.ca_expressions.proofs.Following.{pass}
 use Rattle.ca_read.proofs.DeclarationSteps.{more_tops}
 use Rattle.ca_read.proofs.tops.tops.Goals as goal
 

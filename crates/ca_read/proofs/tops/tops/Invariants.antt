@@ -3,7 +3,7 @@ use Rattle.ca_grammar.specs.Declarations.{nothing_yet}
 use Rattle.ca_grammar.specs.DeclarationPlans.{totalled}
 use Rattle.ca_grammar.specs.Goals.{Tops}
 use Rattle.ca_grammar.specs.Reads.{plan}
-use Rattle.ca_read.specs.Reading.{Onward}
+use Rattle.ca_expressions.specs.Reading.{Onward}
 use Rattle.ca_read.specs.Declaring.{totals_of, AreWithin}
 use Rattle.ca_read.proofs.tops.tops.Given as goal
 

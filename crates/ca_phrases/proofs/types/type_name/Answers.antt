@@ -1,0 +1,12 @@
+use Rattle.std.proofs.lemmas.Result.{err_from_is_err_and}
+use Rattle.ca_grammar.specs.Reads.{gives, calls, fails}
+use Rattle.ca_expressions.proofs.Following.{pass}
+use Rattle.ca_phrases.proofs.types.type_name.Goals as goal
+
+pub returns-in_err-base-clause-reads : goal.returns-in_err-base-clause-reads
+returns-in_err-base-clause-reads c =
+    let p = err_from_is_err_and c.from_residual.result c.from_residual.ensures.1 in
+    rw (p.1, p.2) (pass c.in_err-base.field-0.0 (λ r vs d. fails d) c.in_err-base.ensures.reads)
+
+pub returns-clause-reads : goal.returns-clause-reads
+returns-clause-reads c = calls c.in_ok-base.ensures.reads (calls c.stars-stars.ensures.reads gives)

@@ -1,4 +1,0 @@
-use Rattle.ca_read.proofs.expressions.+behind_unary.Given as goal
-
-abbrev pub decreases-behind_unary : goal.decreases-behind_unary
-decreases-behind_unary l = l.top

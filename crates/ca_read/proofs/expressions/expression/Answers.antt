@@ -1,8 +1,0 @@
-use Rattle.std.proofs.Common.{false}
-use Rattle.ca_grammar.specs.Goals.{Level, Expression}
-use Rattle.ca_grammar.specs.Reads.{calls, fails, gives}
-use Rattle.ca_read.proofs.Onward.{read_as}
-use Rattle.ca_read.proofs.expressions.expression.Goals as goal
-
-pub returns-clause-reads : goal.returns-clause-reads
-returns-clause-reads c = read_as (Level 6 c.args.counts.now 0 false) (Expression c.args.counts.now) _ _ c.args.tokens.now c.level.result (λ x d. calls d gives) (λ r vs d. fails d) c.level.ensures.reads

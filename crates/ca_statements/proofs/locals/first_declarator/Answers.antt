@@ -1,0 +1,17 @@
+use Rattle.std.proofs.lemmas.Result.{err_from_is_err_and}
+use Rattle.ca_grammar.specs.Reads.{gives, calls, fails}
+use Rattle.ca_expressions.proofs.Following.{pass}
+use Rattle.ca_statements.proofs.locals.first_declarator.Goals as goal
+
+pub returns-in_err-starred-clause-reads : goal.returns-in_err-starred-clause-reads
+returns-in_err-starred-clause-reads c =
+    let p = err_from_is_err_and c.from_residual.result c.from_residual.ensures.1 in
+    rw (p.1, p.2) (pass c.in_err-starred.field-0.0 (λ r vs d. fails d) c.in_err-starred.ensures.reads)
+
+pub returns-in_err-value-clause-reads : goal.returns-in_err-value-clause-reads
+returns-in_err-value-clause-reads c =
+    let p = err_from_is_err_and c.from_residual-in_err-value.result c.from_residual-in_err-value.ensures.1 in
+    rw (p.1, p.2) (pass c.in_err-value.field-0.0 (λ r vs d. calls c.in_ok-starred.ensures.reads (fails d)) c.in_err-value.ensures.reads)
+
+pub returns-clause-reads : goal.returns-clause-reads
+returns-clause-reads c = rw c.item.ensures (calls c.in_ok-starred.ensures.reads (calls c.in_ok-value.ensures.reads gives))
