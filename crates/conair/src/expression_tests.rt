@@ -1,6 +1,6 @@
 // Expressions read from their text, worked by hand from the rules of C11 6.5.
-use ca_read::{Operand, ReadNo, expression};
 use ca_lex::{LexNo, tokens};
+use ca_read::{Operand, ReadNo, expression};
 use ca_tree::tree::Exp;
 use ca_tree::{Pos, Text};
 use std::alloc::{AllocError, Global};

@@ -1,7 +1,7 @@
 // Programs read from their text, worked by hand from the grammar.
-use ca_read::{ReadNo, program};
 use crate::expression_tests::{repeated, shown};
 use ca_lex::{LexNo, tokens};
+use ca_read::{ReadNo, program};
 use ca_tree::tree::{Program, Right, Simple, Stmt, Top};
 use std::alloc::{AllocError, Global};
 use std::test::Fail;
