@@ -1,13 +1,20 @@
 -- How a call ends that refuses.
 use Rattle.std.proofs.Common.{◌≡◌, ℕ, List, [], Option, refl, sym, subst, inl, inr}
 use Rattle.std.specs.Prelude.{◌⊎◌}
+use Rattle.ca_tree.specs.declared.token.Token.{Token}
+use Rattle.ca_tree.specs.declared.token.LexFault.{LexFault}
+use Rattle.ca_tree.specs.declared.tree.Program.{Program}
+use Rattle.ca_tree.specs.Lexed.{HasTokens, HasFault}
+use Rattle.ca_grammar.specs.declared.faults.ReadFault.{ReadFault}
+use Rattle.ca_grammar.specs.Texts.{AProgram}
+use Rattle.ca_grammar.specs.Faults.{IsFault}
 use Rattle.ca_model.specs.Codes.{Typed}
-use Rattle.ca_model.specs.FirstForm.{IsFirstForm}
-use Rattle.ca_model.specs.Commands.{Loaded, Exceeded, IsRunOf, Cause, Unread, TooLong, NotBuilt, Ran, status, out_text, err_text, memory_text, Stands}
+use Rattle.ca_model.specs.FirstForm.{StandsFor, AreFirst}
+use Rattle.ca_model.specs.Commands.{Loaded, Exceeded, IsRunOf, Cause, Unread, TooLong, NoTokens, NoProgram, NotBuilt, Ran, status, out_text, err_text, memory_text, Stands}
 use Rattle.ca_io.specs.Ports.{PutPort, LoadPort, put_port, Wrote, WrotePart, HasFailed, HasFailedLoad}
 use Rattle.ca_io.proofs.Puts.{appends_nothing, part_whole}
-use Rattle.ca_cmd.specs.declared.command.Refusal.{Refusal}
-use Rattle.ca_cmd.specs.declared.command.Refusal.TheVariants as refusal
+use Rattle.ca_cmd.specs.declared.refusals.Refusal.{Refusal}
+use Rattle.ca_cmd.specs.declared.refusals.Refusal.TheVariants as refusal
 use Rattle.ca_cmd.specs.Serving.{MayGive, Answers, IsCut, Closes, ReportsPart}
 
 -- a refusal, and no run
@@ -64,13 +71,17 @@ module _ (words : List (List ℕ)) (files : LoadPort) (result : ℕ) (out err : 
 pub record IsRefused (files : LoadPort) (name : List ℕ) (r : Refusal) (out : PutPort) : Type 0 where
   pub unread : r ≡ refusal.Unread → HasFailedLoad files × Wrote out []
   pub too_long : r ≡ refusal.TooLong → MayGive files name Exceeded × Wrote out []
-  pub not_built : r ≡ refusal.NotBuilt → ((bytes : List ℕ) × MayGive files name (Loaded bytes) × ((p : Typed) → IsFirstForm bytes p → ⊥)) × Wrote out []
+  pub no_tokens : (f : LexFault) → r ≡ refusal.NoTokens f → ((bytes : List ℕ) × MayGive files name (Loaded bytes) × HasFault bytes f) × Wrote out []
+  pub no_program : (f : ReadFault) → r ≡ refusal.NoProgram f → ((bytes : List ℕ) × (ts : List Token) × MayGive files name (Loaded bytes) × HasTokens bytes ts × IsFault AProgram ts f) × Wrote out []
+  pub not_built : r ≡ refusal.NotBuilt → ((bytes : List ℕ) × (ts : List Token) × (a : Program) × MayGive files name (Loaded bytes) × StandsFor bytes ts a × ((p : Typed) → AreFirst ts p → ⊥)) × Wrote out []
   pub put : r ≡ refusal.Put → ReportsPart files name out × HasFailed out
   pub no_memory : r ≡ refusal.NoMemory → Wrote out [] ⊎ ReportsPart files name out
 
 pub record IsToldSo (name : List ℕ) (r : Refusal) (result : ℕ) (err : PutPort) : Type 0 where
   pub unread : r ≡ refusal.Unread → Closes 6 (err_text (Unread name)) result err ⊎ Closes 8 memory_text result err
   pub too_long : r ≡ refusal.TooLong → Closes 3 (err_text (TooLong name)) result err ⊎ Closes 8 memory_text result err
+  pub no_tokens : (f : LexFault) → r ≡ refusal.NoTokens f → Closes 3 (err_text (NoTokens name f)) result err ⊎ Closes 8 memory_text result err
+  pub no_program : (f : ReadFault) → r ≡ refusal.NoProgram f → Closes 3 (err_text (NoProgram name f)) result err ⊎ Closes 8 memory_text result err
   pub not_built : r ≡ refusal.NotBuilt → Closes 3 (err_text (NotBuilt name)) result err ⊎ Closes 8 memory_text result err
   pub put : r ≡ refusal.Put → (result ≡ 7) × Wrote err []
   pub no_memory : r ≡ refusal.NoMemory → Closes 8 memory_text result err
@@ -82,6 +93,10 @@ starved_or_cut words files name result out err said (inr part) told = ends_cut w
 pub ends_refused : (words : List (List ℕ)) (files : LoadPort) (name : List ℕ) (r : Refusal) (result : ℕ) (out err : PutPort) → IsRunOf words name → IsRefused files name r out → IsToldSo name r result err → Ends words files result out err
 ends_refused words files name refusal.Unread result out err said is told = ends_told words files result out err (Unread name) tt (said, (is.unread refl).0) refl (is.unread refl).1 (told.unread refl)
 ends_refused words files name refusal.TooLong result out err said is told = ends_told words files result out err (TooLong name) tt (said, (is.too_long refl).0) refl (is.too_long refl).1 (told.too_long refl)
+ends_refused words files name (refusal.NoTokens f) result out err said is told =
+    ends_told words files result out err (NoTokens name f) tt (said, (is.no_tokens f refl).0) refl (is.no_tokens f refl).1 (told.no_tokens f refl)
+ends_refused words files name (refusal.NoProgram f) result out err said is told =
+    ends_told words files result out err (NoProgram name f) tt (said, (is.no_program f refl).0) refl (is.no_program f refl).1 (told.no_program f refl)
 ends_refused words files name refusal.NotBuilt result out err said is told = ends_told words files result out err (NotBuilt name) tt (said, (is.not_built refl).0) refl (is.not_built refl).1 (told.not_built refl)
 ends_refused words files name refusal.Put result out err said is told = ends_failed words files result out err name said (is.put refl).0 (is.put refl).1 (told.put refl).0 (told.put refl).1
 ends_refused words files name refusal.NoMemory result out err said is told = starved_or_cut words files name result out err said (is.no_memory refl) (told.no_memory refl)

@@ -1,9 +1,3 @@
-pub mod Fronts
-pub mod Loops
-pub mod Lexing
-pub mod Found
-pub mod Taken
-pub mod Forms
 pub mod SumAsks
 pub mod Sums
 pub mod SumSteps

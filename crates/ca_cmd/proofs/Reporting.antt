@@ -1,11 +1,12 @@
 -- What the program reports is a run of the file.
 use Rattle.std.proofs.Common.{◌≡◌, ℕ, List, [], sym, ap, ◌∙◌, subst, inl, inr}
+use Rattle.ca_tree.specs.declared.text.Pos.{Pos}
 use Rattle.ca_model.specs.declared.values.Ending.{Ending}
 use Rattle.ca_model.specs.declared.sums.Sums.{Sums}
 use Rattle.ca_model.specs.Private.{Thread}
 use Rattle.ca_model.specs.Machine.{State}
 use Rattle.ca_model.specs.Codes.{Typed}
-use Rattle.ca_model.specs.FirstForm.{Token, typed, IsFirstForm}
+use Rattle.ca_model.specs.FirstForm.{typed, IsFirstForm}
 use Rattle.ca_model.specs.SourceRuns.{rules_of}
 use Rattle.ca_model.specs.Reports.{wait_lines, text_of, report}
 use Rattle.ca_model.specs.Commands.{Loaded, ending_status, IsRunOfFile}
@@ -36,7 +37,7 @@ pub record IsOfFile (files : LoadPort) (name : List ℕ) (r : SourceRun) : Type 
   pub ended : HasEnded r.ending
   pub text : put_text r ≡ report (rules_of source) last r.events.items r.ending
 
-pub is_of_file : (files : LoadPort) (name text bytes : List ℕ) (f : Sums) (r : SourceRun) → MayGive files name (Loaded bytes) → text ≡ bytes → ((ts : List Token) × IsFirstForm text (typed f ts)) → ((ts : List Token) → IsRunOfSource (typed f ts) r)
+pub is_of_file : (files : LoadPort) (name text bytes : List ℕ) (f : Sums) (r : SourceRun) → MayGive files name (Loaded bytes) → text ≡ bytes → ((places : List Pos) × IsFirstForm text (typed f places)) → ((places : List Pos) → IsRunOfSource (typed f places) r)
     → HasEnded r.ending → IsOfFile files name r
 is_of_file files name text bytes f r loaded same form runs ended =
     let p : Typed = typed f form.0 in

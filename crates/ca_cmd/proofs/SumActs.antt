@@ -1,6 +1,7 @@
 -- The acts of a source in order, as a run of the model from its opening.
-use Rattle.std.proofs.Common.{arith, ◌≡◌, ◌≢◌, ℕ, zero, suc, ◌+◌, ◌*◌, ◌<◌, true, false, List, [], ◌∷◌, ◌++◌, map, length, Some, None, refl, sym, ap, ◌∙◌, subst, inl, inr}
-use Rattle.std.specs.Prelude.{ℤ, pos, ◌+ℤ◌, All, is_some, replicate, slice_set}
+use Rattle.ca_tree.specs.declared.text.Pos.{Pos}
+use Rattle.std.proofs.Common.{Bool, true, false, arith, ◌≡◌, ◌≢◌, ℕ, zero, suc, ◌+◌, ◌<◌, true, false, List, [], ◌∷◌, ◌++◌, map, length, Some, None, refl, sym, ap, ◌∙◌, subst, inl, inr}
+use Rattle.std.specs.Prelude.{if◌then◌else◌, ℤ, pos, ◌+ℤ◌, All, is_some, replicate, slice_set}
 use Rattle.std.specs.Ordering.{nat_cmp}
 use Rattle.std.specs.FinMap as map
 use Rattle.std.specs.FinSet as set
@@ -25,21 +26,24 @@ use Rattle.ca_model.specs.Machine.{by}
 use Rattle.ca_model.specs.Codes.{Typed, code_of}
 use Rattle.ca_model.specs.Opening.{opening_shared, globals_from}
 use Rattle.ca_model.specs.SourceRuns.{no_plan, rules_of}
-use Rattle.ca_model.specs.FirstForm.{Token, main_id, sum_of, act_of, act_words, format_text, place_of, items_from, return_item, close_item, typed}
+use Rattle.ca_model.specs.FirstForm.{main_id, sum_of, act_of, format_text, place_of, items_from, return_item, close_item, typed, IsClosed, IsClosedPart, IsClosedAct}
 use Rattle.std.proofs.lemmas.List.{length-set, length-replicate, get_or-replicate, get_or-set_same, get_or-set_other}
 use Rattle.std.proofs.lemmas.List.Elements.{All-head, All-tail}
 use Rattle.std.proofs.lemmas.Bool.{cases_eq}
-use Rattle.ca_cmd.proofs.Lexing.{chosen}
 use Rattle.ca_model.proofs.Cells.{get_here, get_there, read_back, read_other}
 use Rattle.ca_model.proofs.Stepping.{at, passes, enters}
 use Rattle.ca_cmd.specs.declared.run.SourceRun.{SourceRun}
-use Rattle.ca_cmd.specs.Runs.{IsRunOfSource, IsClosed, IsClosedPart, IsClosedAct, traced}
+use Rattle.ca_cmd.specs.Runs.{IsRunOfSource, traced}
 use Rattle.ca_cmd.specs.Running.{cell_of, held, part_value, sum_value, Traced, before, finished, act_event, act_output, cells_after, acts_run}
 use Rattle.ca_cmd.proofs.SumAsks.{last_ask, want_of, act_is, return_is}
 use Rattle.ca_cmd.proofs.SumSteps.{IsOpen, Goes, code, goes_write, goes_print, goes_end}
 use Rattle.ca_cmd.proofs.SumRuns.{Holds, FitEach, frame, AsksSo, begun_so, stays_so, sum_goes}
 
 -- what a sum gives is in range
+chosen : {A : Type 0} (b : Bool) (x y : A) → (if b then Some x else None) ≡ Some y → (b ≡ true) × (x ≡ y)
+chosen true x y h = (refl, cc)
+chosen false x y h = absurd cc
+
 fits_again : (n u : ℤ) → in32 n ≡ Some u → in32 u ≡ Some u
 fits_again n u is = subst (λ z. in32 z ≡ Some u) (chosen (fits32 n) n u is).1 is
 
@@ -69,10 +73,10 @@ module _ (h : Shared) (cells : List ℤ) (k : ℕ) (z : ℤ) (holds : Holds h ce
     | inr ne ↦ subst (λ n. in32 n ≡ Some n) (sym (get_or-set_other cells k j z (pos 0) ne)) (fit j (rw length-set at lt))
   ]
 
-module _ (base : Code) (f : Sums) (ts : List Token) (ends : All (IsClosedPart f.globals) f.returned) where
+module _ (base : Code) (f : Sums) (places : List Pos) (ends : All (IsClosedPart f.globals) f.returned) where
   -- what is left of `main` from an item on
-  abbrev lefts : ℕ → ℕ → List SumAct → List Left
-  lefts i w acts = map Run (map s.Item (items_from i w acts ts) ++ s.Item (return_item f ts) ∷ []) ++ Begin (close_item f ts) ∷ []
+  abbrev lefts : ℕ → List SumAct → List Left
+  lefts i acts = map Run (map s.Item (items_from i acts places) ++ s.Item (return_item f places) ∷ []) ++ Begin (close_item f places) ∷ []
 
   -- after the event of an item
   passes_so : (i : Item) (ls : List Left) (w : Value → Want) (xs : List Value) (z : ℤ) → AsksSo base i ls xs (last_ask w (v.Num z)) → answered (code base) (frame base i ls xs) null ≡ settled (code base) (at main_id [] [] ls)
@@ -81,16 +85,16 @@ module _ (base : Code) (f : Sums) (ts : List Token) (ends : All (IsClosedPart f.
   goes_so : (h : Shared) (i : Item) (ls : List Left) (xs : List Value) (q : Asks Done) (does : Traced) → AsksSo base i ls xs q → Stands (q []) → Goes base h (frame base i ls xs ∷ []) does → Goes base h (settled (code base) (frame base i ls xs) ∷ []) does
   goes_so h i ls xs q does so stands goes = subst (λ f. Goes base h (f ∷ []) does) (sym (stays_so base i ls xs q so stands)) goes
 
-  abbrev Afterwards : ℕ → ℕ → List SumAct → Type 0
-  Afterwards i w acts = (cells : List ℤ) (h : Shared) → IsOpen h → Holds h cells → FitEach cells → length cells ≡ f.globals → Goes base h (settled (code base) (at main_id [] [] (lefts i w acts)) ∷ []) (acts_run acts f.returned cells)
+  abbrev Afterwards : ℕ → List SumAct → Type 0
+  Afterwards i acts = (cells : List ℤ) (h : Shared) → IsOpen h → Holds h cells → FitEach cells → length cells ≡ f.globals → Goes base h (settled (code base) (at main_id [] [] (lefts i acts)) ∷ []) (acts_run acts f.returned cells)
 
   -- the event of an act with the value of its sum
-  act_goes : (a : SumAct) (i w : ℕ) (acts : List SumAct) (item : Item) (cells : List ℤ) (h : Shared) → IsOpen h → Holds h cells → FitEach cells → length cells ≡ f.globals → IsClosedAct f.globals a → Afterwards i w acts
-      → (xs : List Value) (z : ℤ) → in32 z ≡ Some z → AsksSo base item (lefts i w acts) xs (last_ask (want_of a) (v.Num z))
-      → Goes base h (settled (code base) (frame base item (lefts i w acts) xs) ∷ []) (before (by 0 (act_event a z) ∷ []) (act_output a z) (acts_run acts f.returned (cells_after cells a z)))
-  act_goes (sum_act.Set k sum) i w acts item cells h opened holds fit count closed next xs z fits so =
+  act_goes : (a : SumAct) (i : ℕ) (acts : List SumAct) (item : Item) (cells : List ℤ) (h : Shared) → IsOpen h → Holds h cells → FitEach cells → length cells ≡ f.globals → IsClosedAct f.globals a → Afterwards i acts
+      → (xs : List Value) (z : ℤ) → in32 z ≡ Some z → AsksSo base item (lefts i acts) xs (last_ask (want_of a) (v.Num z))
+      → Goes base h (settled (code base) (frame base item (lefts i acts) xs) ∷ []) (before (by 0 (act_event a z) ∷ []) (act_output a z) (acts_run acts f.returned (cells_after cells a z)))
+  act_goes (sum_act.Set k sum) i acts item cells h opened holds fit count closed next xs z fits so =
       let there : k < length cells = rw count closed.0 in
-      let ls : List Left = lefts i w acts in
+      let ls : List Left = lefts i acts in
       let after : Shared = effect h 0 (event.Write (cell_of k) (v.Num z)) in
       let does : Traced = acts_run acts f.returned (slice_set cells k z) in
       let q : Asks Done = last_ask (want_of (sum_act.Set k sum)) (v.Num z) in
@@ -99,8 +103,8 @@ module _ (base : Code) (f : Sums) (ts : List Token) (ends : All (IsClosedPart f.
       goes_so h item ls xs q (before (by 0 (event.Write (cell_of k) (v.Num z)) ∷ []) [] does) so tt
       (goes_write base h opened (frame base item ls xs) k z does (ap wanted (begun_so base item ls xs q so)) (ap is_some (holds k there))
       (subst (λ g. Goes base after (g ∷ []) does) (sym (passes_so item ls (want_of (sum_act.Set k sum)) xs z so)) goes))
-  act_goes (sum_act.Print sum) i w acts item cells h opened holds fit count closed next xs z fits so =
-      let ls : List Left = lefts i w acts in
+  act_goes (sum_act.Print sum) i acts item cells h opened holds fit count closed next xs z fits so =
+      let ls : List Left = lefts i acts in
       let text : List ℕ = written format_text (v.Num z ∷ []) in
       let after : Shared = effect h 0 (event.Print text) in
       let does : Traced = acts_run acts f.returned cells in
@@ -115,22 +119,22 @@ module _ (base : Code) (f : Sums) (ts : List Token) (ends : All (IsClosedPart f.
   closed_sum (sum_act.Set k sum) closed = closed.1
   closed_sum (sum_act.Print sum) closed = closed
 
-  pub acts_go : (i w : ℕ) (acts : List SumAct) → All (IsClosedAct f.globals) acts → Afterwards i w acts
-  acts_go i w [] closed cells h opened holds fit count =
-      let ls : List Left = Begin (close_item f ts) ∷ [] in
-      let item : Item = return_item f ts in
+  pub acts_go : (i : ℕ) (acts : List SumAct) → All (IsClosedAct f.globals) acts → Afterwards i acts
+  acts_go i [] closed cells h opened holds fit count =
+      let ls : List Left = Begin (close_item f places) ∷ [] in
+      let item : Item = return_item f places in
       sum_goes base item ls Returns cells h opened holds fit (λ x. finished) f.returned (rw count ends) (λ ys. return_is f.returned item.id ((code base).first_site item.id) ys)
       (λ xs z value so.
       goes_so h item ls xs (last_ask Returns (v.Num z)) finished so tt
       (goes_end base h opened (frame base item ls xs) (v.Num z) (ap wanted (begun_so base item ls xs (last_ask Returns (v.Num z)) so))))
-  acts_go i w (a ∷ acts) closed cells h opened holds fit count =
+  acts_go i (a ∷ acts) closed cells h opened holds fit count =
       let here : IsClosedAct f.globals a = All-head (IsClosedAct f.globals) a acts closed in
-      let item : Item = record { id = record { 0 = i }; pos = place_of ts w; act = act_of a } in
-      let ls : List Left = lefts (i + 1) (w + act_words a) acts in
+      let item : Item = record { id = record { 0 = i }; pos = place_of places i; act = act_of a } in
+      let ls : List Left = lefts (i + 1) acts in
       sum_goes base item ls (want_of a) cells h opened holds fit (λ x. before (by 0 (act_event a x) ∷ []) (act_output a x) (acts_run acts f.returned (cells_after cells a x))) (sum_of a) (rw count (closed_sum a here))
       (λ ys. act_is a item.id ((code base).first_site item.id) ys)
       (λ xs z value so.
-      act_goes a (i + 1) (w + act_words a) acts item cells h opened holds fit count here (acts_go (i + 1) (w + act_words a) acts (All-tail (IsClosedAct f.globals) a acts closed)) xs z
+      act_goes a (i + 1) acts item cells h opened holds fit count here (acts_go (i + 1) acts (All-tail (IsClosedAct f.globals) a acts closed)) xs z
       (value_fits cells (sum_of a) (pos 0) z refl value) so)
 
 -- the cells of the globals at the opening
@@ -152,9 +156,9 @@ zero_cell m (suc n) (suc k) lt =
     let same : m + 1 + k ≡ m + suc k = omega arith in
     ap (λ o. cell_at (if_live o) (pos 0)) (get_there rest m (m + suc k) zero_block other) ∙ subst (λ j. cell rest j (pos 0) ≡ Some null) same (zero_cell (m + 1) n k (omega arith))
 
-module _ (f : Sums) (ts : List Token) (closed : IsClosed f) where
+module _ (f : Sums) (places : List Pos) (closed : IsClosed f) where
   abbrev p : Typed
-  p = typed f ts
+  p = typed f places
 
   abbrev base : Code
   base = code_of p no_plan
@@ -162,8 +166,8 @@ module _ (f : Sums) (ts : List Token) (closed : IsClosed f) where
   abbrev zeros : List ℤ
   zeros = replicate f.globals (pos 0)
 
-  starts : (rules_of p).start p.main null ≡ settled (code base) (at main_id [] [] (lefts base f ts closed.returned 1 (3 * f.globals + 6) f.acts)) ∷ []
-  starts = ap (λ f. f ∷ []) (enters (code base) main_id [] (lefts base f ts closed.returned 1 (3 * f.globals + 6) f.acts) refl)
+  starts : (rules_of p).start p.main null ≡ settled (code base) (at main_id [] [] (lefts base f places closed.returned 1 f.acts)) ∷ []
+  starts = ap (λ f. f ∷ []) (enters (code base) main_id [] (lefts base f places closed.returned 1 f.acts) refl)
 
   opened : IsOpen (opening_shared p)
   opened = record { open_yet = refl; one = refl; going = set.contains-empty nat_cmp 0 }
@@ -182,7 +186,7 @@ module _ (f : Sums) (ts : List Token) (closed : IsClosed f) where
   goes : Goes base (opening_shared p) ((rules_of p).start p.main null) (acts_run f.acts f.returned zeros)
   goes =
       subst (λ t. Goes base (opening_shared p) t (acts_run f.acts f.returned zeros)) (sym starts)
-      (acts_go base f ts closed.returned 1 (3 * f.globals + 6) f.acts closed.acts zeros (opening_shared p) opened holds fit zeros_count)
+      (acts_go base f places closed.returned 1 f.acts closed.acts zeros (opening_shared p) opened holds fit zeros_count)
 
   pub is_run : (r : SourceRun) → traced r ≡ acts_run f.acts f.returned zeros → IsRunOfSource p r
   is_run r does =

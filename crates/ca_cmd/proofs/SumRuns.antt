@@ -18,10 +18,9 @@ use Rattle.ca_model.specs.Items.{Done}
 use Rattle.ca_model.specs.Laws.{Stands}
 use Rattle.ca_model.specs.Frames.{Code, Frame, Left, Run, item_run, begun, first_weight, wanted, settled}
 use Rattle.ca_model.specs.Shared.{Shared, cell}
-use Rattle.ca_model.specs.FirstForm.{main_id}
+use Rattle.ca_model.specs.FirstForm.{main_id, IsClosedPart}
 use Rattle.ca_model.proofs.Silent.{stays}
 use Rattle.ca_model.proofs.Stepping.{at, begun_item}
-use Rattle.ca_cmd.specs.Runs.{IsClosedPart}
 use Rattle.ca_cmd.specs.Running.{cell_of, held, part_value, part_events, sum_value, sum_events, Traced, before, failed, going_on, summed, the_fault}
 use Rattle.ca_cmd.proofs.SumAsks.{sum_then, last_ask, item_ask}
 use Rattle.ca_cmd.proofs.SumSteps.{IsOpen, Goes, code, goes_read, goes_fault}

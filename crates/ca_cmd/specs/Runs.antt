@@ -1,16 +1,11 @@
 -- What the runs of the program are in the model.
-use Rattle.std.specs.Prelude.{◌≡◌, ◌⊎◌, ◌<◌, ◌^◌, ℕ, List, All}
+use Rattle.std.specs.Prelude.{◌≡◌, ◌⊎◌, List, All}
 use Rattle.ca_model.specs.declared.values.Event.{Event}
 use Rattle.ca_model.specs.declared.values.EventAct.{EventAct}
 use Rattle.ca_model.specs.declared.values.EventAct.TheVariants as act
 use Rattle.ca_model.specs.declared.values.FaultKind.TheVariants as fault
 use Rattle.ca_model.specs.declared.values.Ending.{Ending}
 use Rattle.ca_model.specs.declared.values.Ending.TheVariants as ending
-use Rattle.ca_model.specs.declared.sums.Part.{Part}
-use Rattle.ca_model.specs.declared.sums.Part.TheVariants as part
-use Rattle.ca_model.specs.declared.sums.SumAct.{SumAct}
-use Rattle.ca_model.specs.declared.sums.SumAct.TheVariants as sum_act
-use Rattle.ca_model.specs.declared.sums.Sums.{Sums}
 use Rattle.ca_model.specs.Private.{Thread}
 use Rattle.ca_model.specs.Machine.{State}
 use Rattle.ca_model.specs.Codes.{Typed}
@@ -24,20 +19,6 @@ pub record IsRunOfSource (p : Typed) (r : SourceRun) : Type 0 where
   pub run : IsSourceRun p r.events.items last r.ending
   pub over : IsOver r.ending
   pub output : last.shared.output ≡ r.output.items
-
--- a number of a source, or one of its globals
-abbrev pub IsClosedPart : ℕ → Part → Type 0
-IsClosedPart globals (part.Number n) = n < 2 ^ 31
-IsClosedPart globals (part.Global k) = k < globals
-
-abbrev pub IsClosedAct : ℕ → SumAct → Type 0
-IsClosedAct globals (sum_act.Set k sum) = (k < globals) × All (IsClosedPart globals) sum
-IsClosedAct globals (sum_act.Print sum) = All (IsClosedPart globals) sum
-
--- each number is below 2 to the power of 31, and each global is there
-pub record IsClosed (f : Sums) : Type 0 where
-  pub acts : All (IsClosedAct f.globals) f.acts
-  pub returned : All (IsClosedPart f.globals) f.returned
 
 -- a read, a write, a print, an end or a fault
 abbrev pub IsSimple : EventAct → Type 0

@@ -1,5 +1,7 @@
 -- What the top call answers and writes, by its words, what is told of the files, and what its puts did.
 use Rattle.std.specs.Prelude.{◌≡◌, ◌≤◌, ◌<◌, ◌⊎◌, ℕ, List, [], length, IfSome}
+use Rattle.ca_tree.specs.declared.token.LexFault.{LexFault}
+use Rattle.ca_grammar.specs.declared.faults.ReadFault.{ReadFault}
 use Rattle.ca_model.specs.declared.values.Event.{Event}
 use Rattle.ca_model.specs.declared.values.FaultKind.TheVariants as fault
 use Rattle.ca_model.specs.declared.values.Ending.{Ending}
@@ -9,7 +11,7 @@ use Rattle.ca_model.specs.Machine.{State}
 use Rattle.ca_model.specs.Codes.{Typed}
 use Rattle.ca_model.specs.SourceRuns.{rules_of}
 use Rattle.ca_model.specs.Reports.{report}
-use Rattle.ca_model.specs.Commands.{source_limit, Load, Loaded, Exceeded, Unloaded, Cause, Unread, TooLong, NotBuilt, Ran, ending_status, out_text, err_text, memory_text, IsRunOfFile, Stands}
+use Rattle.ca_model.specs.Commands.{source_limit, Load, Loaded, Exceeded, Unloaded, Cause, Unread, TooLong, NoTokens, NoProgram, NotBuilt, Ran, ending_status, out_text, err_text, memory_text, IsRunOfFile, Stands}
 use Rattle.ca_cmd.specs.Runs.{HasEnded}
 use Rattle.ca_io.specs.Outside.{IsTold}
 use Rattle.ca_io.specs.Ports.{PutPort, LoadPort, Wrote, WrotePart, HasFailed, HasFailedLoad}
@@ -34,9 +36,11 @@ Finishes words files out err = (name : List ℕ) × (p : Typed) × (events : Lis
 abbrev pub Faults : List (List ℕ) → LoadPort → PutPort → PutPort → Type 0
 Faults words files out err = (name : List ℕ) × (p : Typed) × (events : List Event) × (last : State Thread) × Answers words files (Ran name p events last (ending.Fault fault.Arith)) out err
 
--- the source is refused, since it is too long or of another form
+-- the source is refused, since it is too long, has no tokens, is no program within the limits, or is of another form
 abbrev pub Refuses : List (List ℕ) → LoadPort → PutPort → PutPort → Type 0
-Refuses words files out err = (name : List ℕ) × (Answers words files (TooLong name) out err ⊎ Answers words files (NotBuilt name) out err)
+Refuses words files out err =
+    (name : List ℕ) × (Answers words files (TooLong name) out err ⊎ (((f : LexFault) × Answers words files (NoTokens name f) out err)
+    ⊎ (((f : ReadFault) × Answers words files (NoProgram name f) out err) ⊎ Answers words files (NotBuilt name) out err)))
 
 -- the file could not be read
 abbrev pub MissesFile : List (List ℕ) → LoadPort → PutPort → PutPort → Type 0

@@ -1,31 +1,28 @@
 // The top call: words, load, reading, run, report.
-ghost use Rattle.std.specs.Prelude.{◌≡◌, ◌≢◌, ◌⊎◌, ◌<◌, ◌≤◌, ◌++◌, ◌∷◌, [], List, ℕ, Some, map, length, IfOk, OnOk, OnErr, IsErrOf, string_bytes};
+ghost use Rattle.std.specs.Prelude.{◌≡◌, ◌≢◌, ◌⊎◌, ◌<◌, ◌≤◌, ◌++◌, ◌∷◌, [], List, ℕ, Some, map, length, IfOk, OnOk, OnErr, IsErrOf, string_bytes, Err};
+ghost use Rattle.ca_tree.specs.declared.token.Token.{Token};
+ghost use Rattle.ca_tree.specs.declared.token.LexFault.{LexFault};
+ghost use Rattle.ca_tree.specs.declared.tree.Program.{Program};
+ghost use Rattle.ca_tree.specs.Lexed.{HasTokens, HasFault};
+ghost use Rattle.ca_grammar.specs.declared.faults.ReadFault.{ReadFault};
+ghost use Rattle.ca_grammar.specs.Texts.{AProgram};
+ghost use Rattle.ca_grammar.specs.Faults.{IsFault};
 ghost use Rattle.ca_model.specs.Codes.{Typed};
-ghost use Rattle.ca_model.specs.FirstForm.{IsFirstForm};
-ghost use Rattle.ca_model.specs.Commands.{source_limit, IsRunOf, Loaded, Exceeded, Misworded, Unread, TooLong, NotBuilt, err_text, message, memory_text};
-ghost use Rattle.ca_io.specs.Ports.{put_port, load_port, Wrote, HasFailed, HasFailedLoad};
-ghost use Rattle.ca_cmd.specs.Serving.{MayGive, Answers, Finishes, Faults, Refuses, MissesFile, IsCut, IsStatus, NoneFailed, Closes, Reports, ReportsPart};
+ghost use Rattle.ca_model.specs.FirstForm.{StandsFor, AreFirst, IsFirstForm};
+ghost use Rattle.ca_model.specs.Commands.{source_limit, IsRunOf, Loaded, Exceeded, Misworded};
+ghost use Rattle.ca_io.specs.Ports.{put_port, load_port, HasFailed, HasFailedLoad};
+ghost use Rattle.ca_cmd.specs.Serving.{MayGive, Answers, Finishes, Faults, Refuses, MissesFile, IsCut, IsStatus, NoneFailed, Reports, ReportsPart};
 
-use crate::reading::read;
+use crate::reading::{SourceNo, read};
+use crate::refusals::{Refusal, close, refuse};
 use crate::report::write_report;
 use crate::run::run;
 use crate::words::name_of;
 use ca_io::{Files, LoadNo, PutNo, Sink};
-use ca_tree::NoMemory;
-use std::alloc::{AllocError, Global};
+use std::alloc::Global;
 
 /// The most bytes that a source may have.
 const SOURCE_LIMIT: usize = 1_048_576;
-
-// Why a source was not run, or its report not put whole.
-#[derive(Clone, Copy, Debug, PartialEq, Eq)]
-enum Refusal {
-    Unread,
-    TooLong,
-    NotBuilt,
-    Put,
-    NoMemory,
-}
 
 // Runs the source in a file and puts its report.
 fn serve<F: Files, O: Sink>(
@@ -43,9 +40,16 @@ fn serve<F: Files, O: Sink>(
     ensures too_long { IsErrOf result Refusal.TooLong →
         MayGive (load_port F.holds F.faults files.old files.new) name.now Exceeded }
     ensures too_long_nothing { IsErrOf result Refusal.TooLong → out.new ≡ out.old }
-    ensures not_built { IsErrOf result Refusal.NotBuilt → (bytes : List ℕ) ×
+    ensures no_tokens { (f : LexFault) → result ≡ Err (Refusal.NoTokens f) → (bytes : List ℕ) ×
+        MayGive (load_port F.holds F.faults files.old files.new) name.now (Loaded bytes) × HasFault bytes f }
+    ensures no_tokens_nothing { (f : LexFault) → result ≡ Err (Refusal.NoTokens f) → out.new ≡ out.old }
+    ensures no_program { (f : ReadFault) → result ≡ Err (Refusal.NoProgram f) → (bytes : List ℕ) × (ts : List Token) ×
         MayGive (load_port F.holds F.faults files.old files.new) name.now (Loaded bytes) ×
-        ((p : Typed) → IsFirstForm bytes p → ⊥) }
+        HasTokens bytes ts × IsFault AProgram ts f }
+    ensures no_program_nothing { (f : ReadFault) → result ≡ Err (Refusal.NoProgram f) → out.new ≡ out.old }
+    ensures not_built { IsErrOf result Refusal.NotBuilt → (bytes : List ℕ) × (ts : List Token) × (a : Program) ×
+        MayGive (load_port F.holds F.faults files.old files.new) name.now (Loaded bytes) ×
+        StandsFor bytes ts a × ((p : Typed) → AreFirst ts p → ⊥) }
     ensures not_built_nothing { IsErrOf result Refusal.NotBuilt → out.new ≡ out.old }
     ensures put { IsErrOf result Refusal.Put →
         ReportsPart (load_port F.holds F.faults files.old files.new) name.now
@@ -67,12 +71,12 @@ fn serve<F: Files, O: Sink>(
         Err(LoadNo::TooLong) => return Err(Refusal::TooLong),
         Err(LoadNo::NoMemory) => return Err(Refusal::NoMemory),
     };
-    let found = match read(alloc, &bytes) {
-        Ok(found) => found,
-        Err(NoMemory) => return Err(Refusal::NoMemory),
-    };
-    let Some(form) = found else {
-        return Err(Refusal::NotBuilt);
+    let form = match read(alloc, &bytes) {
+        Ok(form) => form,
+        Err(SourceNo::Tokens(fault)) => return Err(Refusal::NoTokens(fault)),
+        Err(SourceNo::Program(fault)) => return Err(Refusal::NoProgram(fault)),
+        Err(SourceNo::NotBuilt) => return Err(Refusal::NotBuilt),
+        Err(SourceNo::NoMemory) => return Err(Refusal::NoMemory),
     };
     let Ok(ran) = run(alloc, &form) else {
         return Err(Refusal::NoMemory);
@@ -84,71 +88,9 @@ fn serve<F: Files, O: Sink>(
     }
 }
 
-// Puts one text, and answers the status.
-fn close<E: Sink>(err: &mut E, status: u8, text: &[u8]) -> u8
-    ensures { Closes status text.now result (put_port E.written E.faults err.old err.new) }
-{
-    match err.put(text) {
-        Ok(()) => status,
-        Err(PutNo::Failed) => 7,
-        Err(PutNo::NoMemory) => 8,
-    }
-}
-
-/// Puts the text on want of memory, and answers its status: 8, or 7 where the put failed.
-pub fn out_of_memory<E: Sink>(err: &mut E) -> u8
-    ensures { Closes 8 memory_text result (put_port E.written E.faults err.old err.new) }
-{
-    close(err, 8, b"conair: out of memory\n")
-}
-
-// Puts the text of a refusal that names the file.
-fn tell<E: Sink>(alloc: Global, err: &mut E, status: u8, front: &str, name: &str, back: &str) -> u8
-    ensures { Closes status (message front.now name.now back.now) result
-        (put_port E.written E.faults err.old err.new)
-        ⊎ Closes 8 memory_text result (put_port E.written E.faults err.old err.new) }
-{
-    match format!(in alloc; "{front}{name}{back}\n") {
-        Ok(text) => close(err, status, text.as_str().as_bytes()),
-        Err(AllocError) => out_of_memory(err),
-    }
-}
-
-// Puts the text of a refusal, and answers its status.
-fn refuse<E: Sink>(alloc: Global, name: &str, refusal: Refusal, err: &mut E) -> u8
-    ensures unread { refusal ≡ Refusal.Unread →
-        Closes 6 (err_text (Unread name.now)) result (put_port E.written E.faults err.old err.new)
-        ⊎ Closes 8 memory_text result (put_port E.written E.faults err.old err.new) }
-    ensures too_long { refusal ≡ Refusal.TooLong →
-        Closes 3 (err_text (TooLong name.now)) result (put_port E.written E.faults err.old err.new)
-        ⊎ Closes 8 memory_text result (put_port E.written E.faults err.old err.new) }
-    ensures not_built { refusal ≡ Refusal.NotBuilt →
-        Closes 3 (err_text (NotBuilt name.now)) result (put_port E.written E.faults err.old err.new)
-        ⊎ Closes 8 memory_text result (put_port E.written E.faults err.old err.new) }
-    ensures put { refusal ≡ Refusal.Put → result ≡ 7 }
-    ensures put_nothing { refusal ≡ Refusal.Put → err.new ≡ err.old }
-    ensures no_memory { refusal ≡ Refusal.NoMemory →
-        Closes 8 memory_text result (put_port E.written E.faults err.old err.new) }
-{
-    match refusal {
-        Refusal::Unread => tell(alloc, err, 6, "conair: cannot read ", name, ""),
-        Refusal::TooLong => tell(
-            alloc,
-            err,
-            3,
-            "conair: ",
-            name,
-            ": longer than 1048576 bytes",
-        ),
-        Refusal::NotBuilt => tell(alloc, err, 3, "conair: ", name, ": not built yet"),
-        Refusal::Put => 7,
-        Refusal::NoMemory => out_of_memory(err),
-    }
-}
-
 /// Does what the words say, and answers the status that the program ends with. The words are `run FILE`: the source in FILE is run, and the report of its run is put to `out`, a line a put.
 ///
-/// The status is 0 where the run finished; 1 where a fault ended it; 2 where the words are others; 3 where the source is longer than 1,048,576 bytes or not of the form that is built; 6 where FILE could not be loaded; 7 where a put failed; 8 where an allocation was refused. After 2, 3, 6 and 8 a text goes to `err`.
+/// The status is 0 where the run finished; 1 where a fault ended it; 2 where the words are others; 3 where the source is longer than 1,048,576 bytes has a fault as a text of tokens or as a program, or is not of the form that is built; 6 where FILE could not be loaded; 7 where a put failed; 8 where an allocation was refused. After 2, 3, 6 and 8 a text goes to `err`.
 pub fn command_alone<F: Files, O: Sink, E: Sink>(
     alloc: Global,
     words: &[String],

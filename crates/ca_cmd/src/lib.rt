@@ -2,13 +2,15 @@
 #![tactic(auto)]
 
 mod command;
+mod fault_texts;
 mod reading;
+mod refusals;
 mod report;
-mod reserved;
 mod run;
 mod words;
 
-pub use command::{command_alone, out_of_memory};
+pub use command::command_alone;
+pub use refusals::out_of_memory;
 
 #[cfg(test)]
 mod tests;

@@ -1,10 +1,11 @@
 // Runs a source.
 ghost use Rattle.std.specs.Prelude.{◌≡◌, ◌++◌, ◌∷◌, [], pos, List, All, length, replicate, IfOk};
+ghost use Rattle.ca_tree.specs.declared.text.Pos.{Pos};
 ghost use Rattle.ca_model.specs.declared.values.Value.TheVariants as v;
 ghost use Rattle.ca_model.specs.Machine.{by};
 ghost use Rattle.ca_model.specs.Printed.{written};
-ghost use Rattle.ca_model.specs.FirstForm.{Token, typed, sum_of, format_text};
-ghost use Rattle.ca_cmd.specs.Runs.{IsRunOfSource, IsClosed, IsClosedPart, IsClosedAct, AreSimple, HasEnded, traced};
+ghost use Rattle.ca_model.specs.FirstForm.{typed, sum_of, format_text, IsClosed, IsClosedPart, IsClosedAct};
+ghost use Rattle.ca_cmd.specs.Runs.{IsRunOfSource, AreSimple, HasEnded, traced};
 ghost use Rattle.ca_cmd.specs.Running.{part_value, part_events, sum_value, sum_events, act_event, act_output, cells_after, acts_run};
 
 use ca_model::{Addr, Ending, Event, EventAct, FaultKind, Part, SumAct, Sums, Value};
@@ -175,7 +176,7 @@ fn follow(alloc: Global, form: &Sums) -> Result<SourceRun, NoMemory>
 /// The run of a source of the first form: `main` does its acts and returns, or a sum has no value.
 pub fn run(alloc: Global, form: &Sums) -> Result<SourceRun, NoMemory>
     requires { IsClosed form.now }
-    ensures is_run { IfOk result (λ r. (ts : List Token) → IsRunOfSource (typed form.now ts) r) }
+    ensures is_run { IfOk result (λ r. (places : List Pos) → IsRunOfSource (typed form.now places) r) }
     ensures ended { IfOk result (λ r. HasEnded r.ending) }
     ensures simple { IfOk result (λ r. AreSimple r.events.items) }
 {

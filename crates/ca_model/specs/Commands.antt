@@ -1,12 +1,20 @@
 -- What a command does: its words, the name that it loads, its status, and its texts on `out` and `err`.
 use Rattle.std.specs.Prelude.{◌≡◌, ◌≢◌, ℕ, List, [], ◌∷◌, ◌++◌, codes}
+use Rattle.ca_tree.specs.declared.token.Token.{Token}
+use Rattle.ca_tree.specs.declared.token.LexFault.{LexFault}
+use Rattle.ca_tree.specs.declared.tree.Program.{Program}
+use Rattle.ca_tree.specs.Lexed.{HasTokens, HasFault}
+use Rattle.ca_grammar.specs.declared.faults.ReadFault.{ReadFault}
+use Rattle.ca_grammar.specs.Texts.{AProgram}
+use Rattle.ca_grammar.specs.Faults.{IsFault}
 use Rattle.ca_model.specs.declared.values.Event.{Event}
 use Rattle.ca_model.specs.declared.values.Ending.{Ending}
 use Rattle.ca_model.specs.declared.values.Ending.TheVariants as ending
 use Rattle.ca_model.specs.Private.{Thread}
 use Rattle.ca_model.specs.Machine.{State}
 use Rattle.ca_model.specs.Codes.{Typed}
-use Rattle.ca_model.specs.FirstForm.{IsFirstForm}
+use Rattle.ca_model.specs.FirstForm.{AreFirst, IsFirstForm, StandsFor}
+use Rattle.ca_model.specs.FaultTexts.{lex_words, read_words, fault_at}
 use Rattle.ca_model.specs.SourceRuns.{IsSourceRun, IsOver, rules_of}
 use Rattle.ca_model.specs.Traces.{line_end}
 use Rattle.ca_model.specs.Reports.{report}
@@ -35,6 +43,8 @@ pub data Cause : Type 0 where
   Misworded : Cause
   Unread : (name : List ℕ) → Cause
   TooLong : (name : List ℕ) → Cause
+  NoTokens : (name : List ℕ) (fault : LexFault) → Cause
+  NoProgram : (name : List ℕ) (fault : ReadFault) → Cause
   NotBuilt : (name : List ℕ) → Cause
   Ran : (name : List ℕ) (p : Typed) (events : List Event) (last : State Thread) (end : Ending) → Cause
 
@@ -49,6 +59,8 @@ abbrev pub status : Cause → ℕ
 status Misworded = 2
 status (Unread name) = 6
 status (TooLong name) = 3
+status (NoTokens name fault) = 3
+status (NoProgram name fault) = 3
 status (NotBuilt name) = 3
 status (Ran name p events last end) = ending_status end
 
@@ -66,6 +78,8 @@ abbrev pub err_text : Cause → List ℕ
 err_text Misworded = codes "conair: words not understood" ++ line_end
 err_text (Unread name) = message (codes "conair: cannot read ") name []
 err_text (TooLong name) = message (codes "conair: ") name (codes ": longer than 1048576 bytes")
+err_text (NoTokens name fault) = message (codes "conair: ") name (fault_at fault.pos (lex_words fault.kind))
+err_text (NoProgram name fault) = message (codes "conair: ") name (fault_at fault.pos (read_words fault.kind))
 err_text (NotBuilt name) = message (codes "conair: ") name (codes ": not built yet")
 err_text (Ran name p events last end) = []
 
@@ -86,5 +100,7 @@ abbrev pub Stands : List (List ℕ) → (List ℕ → Load → Type 0) → Cause
 Stands words Gives Misworded = (name : List ℕ) → IsRunOf words name → ⊥
 Stands words Gives (Unread name) = IsRunOf words name × Gives name Unloaded
 Stands words Gives (TooLong name) = IsRunOf words name × Gives name Exceeded
-Stands words Gives (NotBuilt name) = IsRunOf words name × ((bytes : List ℕ) × Gives name (Loaded bytes) × ((p : Typed) → IsFirstForm bytes p → ⊥))
+Stands words Gives (NoTokens name fault) = IsRunOf words name × ((bytes : List ℕ) × Gives name (Loaded bytes) × HasFault bytes fault)
+Stands words Gives (NoProgram name fault) = IsRunOf words name × ((bytes : List ℕ) × (ts : List Token) × Gives name (Loaded bytes) × HasTokens bytes ts × IsFault AProgram ts fault)
+Stands words Gives (NotBuilt name) = IsRunOf words name × ((bytes : List ℕ) × (ts : List Token) × (a : Program) × Gives name (Loaded bytes) × StandsFor bytes ts a × ((p : Typed) → AreFirst ts p → ⊥))
 Stands words Gives (Ran name p events last end) = IsRunOf words name × IsRunOfFile Gives name p events last end

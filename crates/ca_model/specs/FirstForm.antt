@@ -1,8 +1,16 @@
--- The first form of a source, by cases on its text: `int` globals, and a `main` that sets globals to sums, prints sums and returns a sum.
-use Rattle.std.specs.Prelude.{◌≡◌, ◌<◌, ◌≤◌, ◌+◌, ◌*◌, ◌-◌, ◌^◌, ℕ, pos, List, [], ◌∷◌, ◌++◌, map, length, replicate, All, Bool, false, ◌==◌, ◌&&◌, ◌||◌, nat_le, IsTrue, Some, None, slice_get, codes}
+-- The first form of a source, by its tokens: `int` globals, and a `main` that sets globals to sums, prints sums and returns a sum. Each relation goes from
+-- the tokens to those behind it.
+use Rattle.std.specs.Prelude.{◌≡◌, ◌≢◌, ◌<◌, ◌≤◌, ◌+◌, ◌-◌, ◌^◌, ℕ, pos, List, [], ◌∷◌, ◌++◌, map, length, replicate, All, false, Some, None, slice_get, codes}
 use Rattle.ca_tree.specs.declared.text.Pos.{Pos}
+use Rattle.ca_tree.specs.declared.token.Mark.TheVariants as mark
+use Rattle.ca_tree.specs.declared.token.Token.{Token}
 use Rattle.ca_tree.specs.declared.numbers.FunId.{FunId}
-use Rattle.ca_tree.specs.Places.{start, after}
+use Rattle.ca_tree.specs.declared.tree.Program.{Program}
+use Rattle.ca_tree.specs.Places.{start}
+use Rattle.ca_tree.specs.Lexed.{HasTokens}
+use Rattle.ca_grammar.specs.Words.{The_mark, The_word, The_end, A_number, A_string, A_name_of_the_source, Takes, Skips, open_paren, close_paren, open_brace, close_brace, comma, semicolon, assign, is_one_of}
+use Rattle.ca_grammar.specs.Declarations.{IsProgram}
+use Rattle.ca_grammar.specs.Laws.{all_kept}
 use Rattle.ca_model.specs.declared.tree.LoadKind.TheVariants as kind
 use Rattle.ca_model.specs.declared.tree.BinOp.TheVariants as op
 use Rattle.ca_model.specs.declared.tree.Exp.{Exp}
@@ -20,103 +28,84 @@ use Rattle.ca_model.specs.declared.sums.SumAct.TheVariants as sum_act
 use Rattle.ca_model.specs.declared.sums.Sums.{Sums}
 use Rattle.ca_model.specs.Arith.{null}
 use Rattle.ca_model.specs.Codes.{Typed}
-use Rattle.ca_model.specs.Words.{is_digit, is_word_byte, is_one_of, IsGlobalName}
-
--- a space, and from 9 to 13 a tab, a line feed, a vertical tab, a form feed and a carriage return
-abbrev pub is_blank : ℕ → Bool
-is_blank c = (c == 32) || (nat_le 9 c && nat_le c 13)
-
-abbrev pub AreBlanks : List ℕ → Type 0
-AreBlanks [] = Unit {0}
-AreBlanks (c ∷ cs) = IsTrue (is_blank c) × AreBlanks cs
-
--- whether a token that begins with c goes on with d: a word or number with a letter, digit or `_`; and `++`, `+=` and `==` are other marks
-abbrev pub goes_on : ℕ → ℕ → Bool
-goes_on c d = (is_word_byte c && is_word_byte d) || ((c == 43) && ((d == 43) || (d == 61))) || ((c == 61) && (d == 61))
-
--- a token is as long as it can be
-abbrev pub IsLongest : List ℕ → List ℕ → Type 0
-IsLongest [] rest = Unit {0}
-IsLongest (c ∷ cs) [] = Unit {0}
-IsLongest (c ∷ cs) (d ∷ ds) = goes_on c d ≡ false
-
--- a token: where it begins, and its bytes
-pub record Token : Type 0 where
-  pub place : Pos
-  pub spelling : List ℕ
-
--- the text, which stands at a place, is blanks, this token, and the rest
-pub record Begins (at : Pos) (t : Token) (text rest : List ℕ) : Type 0 where
-  pub blanks : List ℕ
-  pub are_blanks : AreBlanks blanks
-  pub whole : text ≡ blanks ++ (t.spelling ++ rest)
-  pub place : t.place ≡ after at blanks
-  pub longest : IsLongest t.spelling rest
-
--- the text is these tokens in order, with blanks before, between and after them
-abbrev pub Spells : Pos → List Token → List ℕ → Type 0
-Spells at [] text = AreBlanks text
-Spells at (t ∷ ts) text = (rest : List ℕ) × Begins at t text rest × Spells (after t.place t.spelling) ts rest
-
-abbrev pub AreDigits : List ℕ → Type 0
-AreDigits [] = Unit {0}
-AreDigits (d ∷ ds) = IsTrue (is_digit d) × AreDigits ds
-
--- the number of decimal digits that follow a number
-abbrev pub value_after : ℕ → List ℕ → ℕ
-value_after n [] = n
-value_after n (d ∷ ds) = value_after (n * 10 + (d - 48)) ds
-
--- `0`, or a digit from 1 to 9 and digits, at most 2147483647
-abbrev pub IsNumeral : List ℕ → ℕ → Type 0
-IsNumeral [] n = ⊥
-IsNumeral (d ∷ ds) n = AreDigits (d ∷ ds) × (d ≡ 48 → ds ≡ []) × (n ≡ value_after 0 (d ∷ ds)) × (n < 2 ^ 31)
 
 -- a number, or the name of a global
-abbrev pub IsPart : List (List ℕ) → Part → List ℕ → Type 0
-IsPart names (part.Number n) t = IsNumeral t n
-IsPart names (part.Global k) t = slice_get names k ≡ Some t
+abbrev pub IsPart : List (List ℕ) → Part → List Token → List Token → Type 0
+IsPart names (part.Number n) ts us = (p : Pos) × Takes A_number ts p (pos n) us
+IsPart names (part.Global k) ts us = (p : Pos) × (t : List ℕ) × Takes A_name_of_the_source ts p t us × (slice_get names k ≡ Some t)
 
 -- parts with `+` between them
-abbrev pub IsSum : List (List ℕ) → List Part → List (List ℕ) → Type 0
-IsSum names [] ws = ⊥
-IsSum names (x ∷ []) ws = (t : List ℕ) × IsPart names x t × (ws ≡ t ∷ [])
-IsSum names (x ∷ y ∷ more) ws = (t : List ℕ) × (us : List (List ℕ)) × IsPart names x t × IsSum names (y ∷ more) us × (ws ≡ t ∷ codes "+" ∷ us)
+pub data IsSum (names : List (List ℕ)) : List Part → List Token → List Token → Type 0 where
+  last_part : {x : Part} {ts us : List Token} → IsPart names x ts us → IsSum names (x ∷ []) ts us
+  more_parts : {x : Part} {xs : List Part} {ts us vs ws : List Token} → IsPart names x ts us → Skips (The_mark mark.Plus) us vs → IsSum names xs vs ws → IsSum names (x ∷ xs) ts ws
 
--- the string `"%d\n"`, as it is spelled
-abbrev pub format_word : List ℕ
-format_word = 34 ∷ 37 ∷ 100 ∷ 92 ∷ 110 ∷ 34 ∷ []
+-- the bytes of the string `"%d\n"`
+abbrev pub format_text : List ℕ
+format_text = 37 ∷ 100 ∷ 10 ∷ []
 
--- `name = sum;` or `printf("%d\n", sum);`
-abbrev pub IsAct : List (List ℕ) → SumAct → List (List ℕ) → Type 0
-IsAct names (sum_act.Set k sum) ws =
-    (t : List ℕ) × (us : List (List ℕ)) × (slice_get names k ≡ Some t) × IsSum names sum us × (ws ≡ t ∷ codes "=" ∷ (us ++ codes ";" ∷ []))
-IsAct names (sum_act.Print sum) ws =
-    (us : List (List ℕ)) × IsSum names sum us × (ws ≡ codes "printf" ∷ codes "(" ∷ format_word ∷ codes "," ∷ (us ++ codes ")" ∷ codes ";" ∷ []))
+-- `name = sum;` or `printf("%d\n", sum);`, and where it begins
+pub data IsAct (names : List (List ℕ)) : SumAct → Pos → List Token → List Token → Type 0 where
+  sets : {k : ℕ} {sum : List Part} {p : Pos} {t : List ℕ} {ts us vs ws xs : List Token} → Takes A_name_of_the_source ts p t us → slice_get names k ≡ Some t → Skips assign us vs → IsSum names sum vs ws
+      → Skips semicolon ws xs → IsAct names (sum_act.Set k sum) p ts xs
+  prints : {sum : List Part} {p q : Pos} {ts us vs ws xs ys zs more : List Token} → Takes (The_word (codes "printf")) ts p tt us → Skips open_paren us vs → Takes A_string vs q format_text ws → Skips comma ws xs
+      → IsSum names sum xs ys → Skips close_paren ys zs → Skips semicolon zs more → IsAct names (sum_act.Print sum) p ts more
 
-abbrev pub AreActs : List (List ℕ) → List SumAct → List (List ℕ) → Type 0
-AreActs names [] ws = ws ≡ []
-AreActs names (a ∷ acts) ws = (us : List (List ℕ)) × (vs : List (List ℕ)) × IsAct names a us × AreActs names acts vs × (ws ≡ us ++ vs)
+-- acts in order, and where they begin
+pub data AreActs (names : List (List ℕ)) : List SumAct → List Pos → List Token → List Token → Type 0 where
+  no_act : {ts : List Token} → AreActs names [] [] ts ts
+  an_act : {a : SumAct} {acts : List SumAct} {p : Pos} {starts : List Pos} {ts us vs : List Token} → IsAct names a p ts us → AreActs names acts starts us vs → AreActs names (a ∷ acts) (p ∷ starts) ts vs
 
 -- `int name;` for each name
-abbrev pub declarations : List (List ℕ) → List (List ℕ)
-declarations [] = []
-declarations (n ∷ ns) = codes "int" ∷ n ∷ codes ";" ∷ declarations ns
+pub data AreGlobals : List (List ℕ) → List Token → List Token → Type 0 where
+  no_global : {ts : List Token} → AreGlobals [] ts ts
+  a_global : {t : List ℕ} {names : List (List ℕ)} {p : Pos} {ts us vs ws xs : List Token} → Skips (The_word (codes "int")) ts us → Takes A_name_of_the_source us p t vs → Skips semicolon vs ws → AreGlobals names ws xs
+      → AreGlobals (t ∷ names) ts xs
 
 -- `int main(void) {`
-abbrev pub heading : List (List ℕ)
-heading = codes "int" ∷ codes "main" ∷ codes "(" ∷ codes "void" ∷ codes ")" ∷ codes "{" ∷ []
+pub record IsHeading (ts us : List Token) : Type 0 where
+  pub behind_int : List Token
+  pub behind_main : List Token
+  pub behind_open : List Token
+  pub behind_void : List Token
+  pub behind_close : List Token
+  pub result : Skips (The_word (codes "int")) ts behind_int
+  pub name : Skips (The_word (codes "main")) behind_int behind_main
+  pub opens : Skips open_paren behind_main behind_open
+  pub nothing : Skips (The_word (codes "void")) behind_open behind_void
+  pub closes : Skips close_paren behind_void behind_close
+  pub brace : Skips open_brace behind_close us
 
--- the declarations, and `main`
-abbrev pub AreSums : List (List ℕ) → Sums → List (List ℕ) → Type 0
-AreSums names f ws =
-    (acts : List (List ℕ)) × (sum : List (List ℕ)) × AreActs names f.acts acts × IsSum names f.returned sum
-    × (ws ≡ declarations names ++ (heading ++ (acts ++ (codes "return" ∷ (sum ++ codes ";" ∷ codes "}" ∷ [])))))
+-- acts, a `return`, the closing brace and the end; and where these items begin
+pub record IsBody (names : List (List ℕ)) (f : Sums) (places : List Pos) (ts : List Token) : Type 0 where
+  pub starts : List Pos
+  pub return_at : Pos
+  pub close_at : Pos
+  pub end_at : Pos
+  pub behind_acts : List Token
+  pub behind_return : List Token
+  pub behind_sum : List Token
+  pub behind_semicolon : List Token
+  pub behind_brace : List Token
+  pub acts : AreActs names f.acts starts ts behind_acts
+  pub returns : Takes (The_word (codes "return")) behind_acts return_at tt behind_return
+  pub sum : IsSum names f.returned behind_return behind_sum
+  pub ends : Skips semicolon behind_sum behind_semicolon
+  pub brace : Takes close_brace behind_semicolon close_at tt behind_brace
+  pub last : Takes The_end behind_brace end_at tt []
+  pub are_places : places ≡ starts ++ return_at ∷ close_at ∷ []
 
--- each is a name that a global may have, and no earlier one
+-- the globals, and `main`
+pub record AreSums (names : List (List ℕ)) (f : Sums) (places : List Pos) (ts : List Token) : Type 0 where
+  pub behind_globals : List Token
+  pub behind_heading : List Token
+  pub globals : AreGlobals names ts behind_globals
+  pub heading : IsHeading behind_globals behind_heading
+  pub body : IsBody names f places behind_heading
+
+-- none is `main`, or an earlier one
 abbrev pub AreNamesAfter : List (List ℕ) → List (List ℕ) → Type 0
 AreNamesAfter earlier [] = Unit {0}
-AreNamesAfter earlier (n ∷ ns) = IsGlobalName n × (is_one_of earlier n ≡ false) × AreNamesAfter (earlier ++ n ∷ []) ns
+AreNamesAfter earlier (n ∷ ns) = (n ≢ codes "main") × (is_one_of earlier n ≡ false) × AreNamesAfter (earlier ++ n ∷ []) ns
 
 abbrev pub sum_of : SumAct → List Part
 sum_of (sum_act.Set k sum) = sum
@@ -131,9 +120,19 @@ pub record IsWithin (names : List (List ℕ)) (f : Sums) : Type 0 where
   pub parts : All (λ a. length (sum_of a) ≤ 64) f.acts
   pub returned : length f.returned ≤ 64
 
--- where token number k begins, counted from 0
-abbrev pub place_of : List Token → ℕ → Pos
-place_of ts k = elim (slice_get ts k) [ None ↦ start | Some t ↦ t.place ]
+-- a number of a source, or one of its globals
+abbrev pub IsClosedPart : ℕ → Part → Type 0
+IsClosedPart globals (part.Number n) = n < 2 ^ 31
+IsClosedPart globals (part.Global k) = k < globals
+
+abbrev pub IsClosedAct : ℕ → SumAct → Type 0
+IsClosedAct globals (sum_act.Set k sum) = (k < globals) × All (IsClosedPart globals) sum
+IsClosedAct globals (sum_act.Print sum) = All (IsClosedPart globals) sum
+
+-- each number is below 2 to the power of 31, and each global is there
+pub record IsClosed (f : Sums) : Type 0 where
+  pub acts : All (IsClosedAct f.globals) f.acts
+  pub returned : All (IsClosedPart f.globals) f.returned
 
 -- the typed source: a global is its cell, and a sum groups to the left
 abbrev pub global_place : ℕ → Place
@@ -151,49 +150,36 @@ abbrev pub sum_exp : List Part → Exp
 sum_exp [] = e.Num (pos 0)
 sum_exp (x ∷ more) = sum_after (part_exp x) more
 
--- the bytes of the string `"%d\n"`
-abbrev pub format_text : List ℕ
-format_text = 37 ∷ 100 ∷ 10 ∷ []
-
 abbrev pub act_of : SumAct → Act
 act_of (sum_act.Set k sum) = act.Set (target.Place (global_place k)) (sum_exp sum)
 act_of (sum_act.Print sum) = act.Print format_text (sum_exp sum ∷ [])
 
--- how many tokens an act has
-abbrev pub act_words : SumAct → ℕ
-act_words (sum_act.Set k sum) = 2 * length sum + 2
-act_words (sum_act.Print sum) = 2 * length sum + 5
+-- where item number i begins
+abbrev pub place_of : List Pos → ℕ → Pos
+place_of places i = elim (slice_get places (i - 1)) [ None ↦ start | Some p ↦ p ]
 
-abbrev pub acts_words : List SumAct → ℕ
-acts_words [] = 0
-acts_words (a ∷ acts) = act_words a + acts_words acts
+-- the items of acts, from item number i on
+abbrev pub items_from : ℕ → List SumAct → List Pos → List Item
+items_from i [] places = []
+items_from i (a ∷ acts) places = record { id = record { 0 = i }; pos = place_of places i; act = act_of a } ∷ items_from (i + 1) acts places
 
--- the items of acts, from item number i and token number w on
-abbrev pub items_from : ℕ → ℕ → List SumAct → List Token → List Item
-items_from i w [] ts = []
-items_from i w (a ∷ acts) ts = record { id = record { 0 = i }; pos = place_of ts w; act = act_of a } ∷ items_from (i + 1) (w + act_words a) acts ts
+abbrev pub return_item : Sums → List Pos → Item
+return_item f places = record { id = record { 0 = length f.acts + 1 }; pos = place_of places (length f.acts + 1); act = act.Return (Some (sum_exp f.returned)) }
 
--- the number of the token `return`
-abbrev pub return_word : Sums → ℕ
-return_word f = 3 * f.globals + 6 + acts_words f.acts
-
-abbrev pub return_item : Sums → List Token → Item
-return_item f ts = record { id = record { 0 = length f.acts + 1 }; pos = place_of ts (return_word f); act = act.Return (Some (sum_exp f.returned)) }
-
-abbrev pub close_item : Sums → List Token → Item
-close_item f ts = record { id = record { 0 = length f.acts + 2 }; pos = place_of ts (return_word f + 2 * length f.returned + 1); act = act.Close }
+abbrev pub close_item : Sums → List Pos → Item
+close_item f places = record { id = record { 0 = length f.acts + 2 }; pos = place_of places (length f.acts + 2); act = act.Close }
 
 abbrev pub main_id : FunId
 main_id = record { 0 = 0 }
 
-abbrev pub typed : Sums → List Token → Typed
-typed f ts = record {
+abbrev pub typed : Sums → List Pos → Typed
+typed f places = record {
   functions = record {
     id = main_id;
     parameters = 0;
     locals = 0;
-    body = map s.Item (items_from 1 (3 * f.globals + 6) f.acts ts) ++ s.Item (return_item f ts) ∷ [];
-    close = close_item f ts;
+    body = map s.Item (items_from 1 f.acts places) ++ s.Item (return_item f places) ∷ [];
+    close = close_item f places;
   } ∷ [];
   main = main_id;
   globals = replicate f.globals (record { cells = 1; first = null });
@@ -202,8 +188,12 @@ typed f ts = record {
 
 -- the tokens are those of the first form, and this is the source that they stand for
 abbrev pub AreFirst : List Token → Typed → Type 0
-AreFirst ts p = (names : List (List ℕ)) × (f : Sums) × IsWithin names f × AreSums names f (map (λ t. t.spelling) ts) × (p ≡ typed f ts)
+AreFirst ts p = (names : List (List ℕ)) × (f : Sums) × (places : List Pos) × IsWithin names f × AreSums names f places ts × (p ≡ typed f places)
 
--- the text is of the first form, and this is the source that it stands for
+-- the text has these tokens, and they are this program
+abbrev pub StandsFor : List ℕ → List Token → Program → Type 0
+StandsFor text ts a = HasTokens text ts × IsProgram all_kept a ts
+
+-- the text is a program whose tokens are those of the first form, and this is the source that it stands for
 abbrev pub IsFirstForm : List ℕ → Typed → Type 0
-IsFirstForm text p = (ts : List Token) × Spells start ts text × AreFirst ts p
+IsFirstForm text p = (ts : List Token) × (a : Program) × StandsFor text ts a × AreFirst ts p

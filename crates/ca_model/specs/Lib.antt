@@ -34,6 +34,6 @@ pub mod Follows
 pub mod Numbering
 pub mod Traces
 pub mod Reports
-pub mod Words
 pub mod FirstForm
+pub mod FaultTexts
 pub mod Commands

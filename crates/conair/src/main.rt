@@ -2,9 +2,13 @@
 #![tactic(auto)]
 
 #[cfg(test)]
+mod command_tests;
+#[cfg(test)]
 mod expression_tests;
 #[cfg(test)]
 mod program_tests;
+#[cfg(test)]
+mod sources;
 
 use ca_cmd::{command_alone, out_of_memory};
 use ca_io::{HostFiles, HostSink};

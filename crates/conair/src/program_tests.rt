@@ -1,5 +1,6 @@
 // Programs read from their text, worked by hand from the grammar.
 use crate::expression_tests::{repeated, shown};
+use crate::sources::ALL;
 use ca_lex::{LexNo, tokens};
 use ca_read::{ReadNo, program};
 use ca_tree::tree::{Program, Right, Simple, Stmt, Top};
@@ -86,6 +87,15 @@ const STATEMENTS: [&[u8]; 34] = [
 
 fn in_function(alloc: Global, body: &[u8]) -> Result<Vec<u8>, AllocError> {
     repeated(alloc, b"void f(void) {", body, 1, b"}")
+}
+
+#[test]
+fn worked_sources_are_read(rt: HostRuntime) -> Result<(), Fail> {
+    let alloc = rt.alloc();
+    for source in ALL {
+        assert_eq!(rt; answer(alloc, source)?.as_str(), "read");
+    }
+    Ok(())
 }
 
 #[test]

@@ -101,38 +101,127 @@ fn empty_main(rt: HostRuntime) -> Result<(), Fail> {
     Ok(())
 }
 
+const UNBUILT: [&[u8]; 20] = [
+    b"",
+    b"int x;",
+    b"int main(void){ if (1) return 0; return 1; }",
+    b"int main(void){ return -1; }",
+    b"int main(void){ return (1); }",
+    b"int main(void){ return; }",
+    b"int main(){ return 0; }",
+    b"static int x; int main(void){ return 0; }",
+    b"int Main(void){ return 0; }",
+    b"int main(void){ return 0; } int main(void){ return 0; }",
+    b"int main; int main(void){ return 0; }",
+    b"int printf; int main(void){ return 0; }",
+    b"int x; int x; int main(void){ return 0; }",
+    b"int x = 1; int main(void){ return 0; }",
+    b"int x, y; int main(void){ return 0; }",
+    b"int g; int main(void){ h = 1; return 0; }",
+    b"int g; int main(void){ g = h; return 0; }",
+    b"int x; int main(void){ x += 1; return 0; }",
+    b"int x; int main(void){ x = 1;; return 0; }",
+    b"int x; int main(void){ return 0; x = 1; }",
+];
+
+const UNBUILT_PRINTS: [&[u8]; 4] = [
+    b"int x; int main(void){ printf(\"%d\", x); return 0; }",
+    b"int x; int main(void){ printf(\"%d\\n\"); return 0; }",
+    b"int x; int main(void){ printf(\"%d\\n\", x, x); return 0; }",
+    b"int x; int main(void){ printf(\"%d\\n\", x - x); return 0; }",
+];
+
 #[test]
 fn not_built_yet(rt: HostRuntime) -> Result<(), Fail> {
+    for source in UNBUILT {
+        refuses(&rt, rt.alloc(), source)?;
+    }
+    for source in UNBUILT_PRINTS {
+        refuses(&rt, rt.alloc(), source)?;
+    }
+    Ok(())
+}
+
+const LEX_FAULTS: [(&[u8], &str); 14] = [
+    (b"int main(void) { /* x", "1:18: OpenComment"),
+    (b"int g;\n\xff", "2:1: NotUtf8"),
+    (b"int main(void){ return 0;\xff }", "1:26: NotUtf8"),
+    (b"/* \xE6\xBC\xA2 */ \xE6", "1:9: NotUtf8"),
+    (b"int g = 2147483648;", "1:9: NumberTooLarge"),
+    (
+        b"int main(void){ return 99999999999999999999; }",
+        "1:24: NumberTooLarge",
+    ),
+    (b"int main(void){ return 007; }", "1:24: NumberForm"),
+    (b"int 1x;", "1:5: NumberForm"),
+    (b"int x = 0x;", "1:9: NumberForm"),
+    (b"int main(void){ return 0; }\x00", "1:28: BadChar"),
+    (b"\xef\xbb\xbfint g;", "1:1: BadChar"),
+    (b"int g;\n  @", "2:3: BadChar"),
+    (b"int main(void) { printf(\"x\n\"); }", "1:25: OpenString"),
+    (b"int main(void) { printf(\"a\\q\"); }", "1:27: BadChar"),
+];
+
+const READ_FAULTS: [(&[u8], &str); 16] = [
+    (
+        b"int main(void) { /* \xE6\xBC\xA2\xE5\xAD\x97 */ return f(); }",
+        "1:35: LeftOut InnerCall",
+    ),
+    (b"int main(void) { x = 1 << 2; }", "1:24: LeftOut Operator"),
+    (b"int main(void) { goto x; }", "1:18: LeftOut Keyword"),
+    (b"int g;\n#define x 1\n", "2:1: LeftOut Preprocessor"),
+    (
+        b"int _Bool; int main(void){ return 0; }",
+        "1:5: LeftOut Keyword",
+    ),
+    (b"int while; int main(void){ return 0; }", "1:5: Grammar"),
+    (b"int main(void){ return0; }", "1:24: Grammar"),
+    (b"intmain(void){ return 0; }", "1:1: Grammar"),
+    (b"int main(void){ return 0 }", "1:26: Grammar"),
+    (b"int main(void){ return 0; } x", "1:29: Grammar"),
+    (b"int main(void){ return 0; ", "1:27: Grammar"),
+    (b"int x; int main(void){ x==1; return 0; }", "1:25: Grammar"),
+    (
+        b"int x; int main(void){ x = 1++2; return 0; }",
+        "1:29: Grammar",
+    ),
+    (
+        b"int x; int main(void){ x = 1 + +2; return 0; }",
+        "1:32: Grammar",
+    ),
+    (b"int x; int main(void){ x = ; return 0; }", "1:28: Grammar"),
+    (
+        b"int x; int main(void){ x = 1 +; return 0; }",
+        "1:31: Grammar",
+    ),
+];
+
+// A fault with its place.
+fn faulty(rt: &impl Abort, alloc: Global, source: &[u8], fault: &str) -> Result<(), Fail> {
+    let err = format!(in alloc; "conair: a.c:{fault}\n")?;
     let wanted = Wanted {
         status: 3,
         out: "",
-        err: NOT_BUILT,
+        err: err.as_str(),
     };
-    let sources: [&[u8]; 19] = [
-        b"int main(void){ if (1) return 0; return 1; }",
-        b"int main(void){ return 2147483648; }",
-        b"int main(void){ return 99999999999999999999; }",
-        b"int main(void){ return 007; }",
-        b"int main(void){ return 0x1; }",
-        b"int main(void){ return -1; }",
-        b"int main(void){ return; }",
-        b"int main(void){ return0; }",
-        b"intmain(void){ return 0; }",
-        b"int main(){ return 0; }",
-        b"int main(void){ return 0 }",
-        b"int main(void){ return 0; } x",
-        b"int main(void){ return 0; /* x */ }",
-        b"int main(void){ return 0; ",
-        b"int Main(void){ return 0; }",
-        b"int main(void){ return 0;\xff }",
-        b"int main(void){ return 0; }\x00",
-        b"\xef\xbb\xbfint main(void){ return 0; }",
-        b"",
-    ];
-    for source in sources {
-        check(&rt, rt.alloc(), run_of(source), wanted)?;
+    check(rt, alloc, run_of(source), wanted)
+}
+
+#[test]
+fn the_first_fault_is_told_with_its_place(rt: HostRuntime) -> Result<(), Fail> {
+    for (source, fault) in LEX_FAULTS {
+        faulty(&rt, rt.alloc(), source, fault)?;
     }
-    Ok(())
+    for (source, fault) in READ_FAULTS {
+        faulty(&rt, rt.alloc(), source, fault)?;
+    }
+    // a fault of the tokens comes before one of the grammar
+    faulty(
+        &rt,
+        rt.alloc(),
+        b"} int g = 2147483648;",
+        "1:11: NumberTooLarge",
+    )
 }
 
 // The report of a run, with this status.
@@ -226,37 +315,22 @@ fn globals_are_read_from_left_to_right(rt: HostRuntime) -> Result<(), Fail> {
 }
 
 #[test]
-fn sums_not_built_yet(rt: HostRuntime) -> Result<(), Fail> {
-    let sources: [&[u8]; 24] = [
-        b"int g; int main(void){ h = 1; return 0; }",
-        b"int g; int main(void){ g = h; return 0; }",
-        b"int main(void){ return 0; } int main(void){ return 0; }",
-        b"int main; int main(void){ return 0; }",
-        b"int x; int x; int main(void){ return 0; }",
-        b"int x; int main(void){ x==1; return 0; }",
-        b"int x; int main(void){ x+=1; return 0; }",
-        b"int x; int main(void){ x = 1++2; return 0; }",
-        b"int x; int main(void){ x = 1 + +2; return 0; }",
-        b"int x; int main(void){ x = 010; return 0; }",
-        b"int x; int main(void){ x = 0x1; return 0; }",
-        b"int x; int main(void){ x = 1;; return 0; }",
-        b"int x; int main(void){ x = ; return 0; }",
-        b"int x; int main(void){ x = 1 +; return 0; }",
-        b"int x; int main(void){ printf(\"%d\", x); return 0; }",
-        b"int x; int main(void){ printf(\"%d\\n\"); return 0; }",
-        b"int while; int main(void){ return 0; }",
-        b"int printf; int main(void){ return 0; }",
-        b"int _Bool; int main(void){ return 0; }",
-        b"int 1x; int main(void){ return 0; }",
-        b"int x = 1; int main(void){ return 0; }",
-        b"int x, y; int main(void){ return 0; }",
-        b"int x; int main(void){ return 0; x = 1; }",
-        b"int x;",
-    ];
-    for source in sources {
-        refuses(&rt, rt.alloc(), source)?;
-    }
-    Ok(())
+fn comments_and_includes_are_skipped(rt: HostRuntime) -> Result<(), Fail> {
+    let alloc = rt.alloc();
+    reports(
+        &rt,
+        alloc,
+        b"#include <pthread.h>\n# include <stdio.h> // out\n#include <stdlib.h>\n/* and */ #include <assert.h>\nint g; // a global\nint main(void) { g /* is */ = 0x1F; return g; }\n",
+        0,
+        "trace 3\n0 write @0.0 31\n0 read @0.0 31\n0 end\nending finished\noutput 0\n",
+    )?;
+    reports(
+        &rt,
+        alloc,
+        b"int main(void){ return 0; /* x */ } // y",
+        0,
+        REPORT,
+    )
 }
 
 #[test]
@@ -269,7 +343,12 @@ fn names_have_up_to_63_bytes(rt: HostRuntime) -> Result<(), Fail> {
     let out = "trace 3\n0 write @1.0 2\n0 read @0.0 0\n0 end\nending finished\noutput 0\n";
     reports(&rt, alloc, source.as_str().as_bytes(), 0, out)?;
     let longer = format!(in alloc; "int {long}bc; int main(void){{ return 0; }}")?;
-    refuses(&rt, alloc, longer.as_str().as_bytes())
+    faulty(
+        &rt,
+        alloc,
+        longer.as_str().as_bytes(),
+        "1:5: TooMany NameBytes",
+    )
 }
 
 #[test]
@@ -278,7 +357,12 @@ fn sums_have_up_to_64_parts(rt: HostRuntime) -> Result<(), Fail> {
     let most = repeated(alloc, "int main(void){ return 0", " + 1", 63, "; }")?;
     reports(&rt, alloc, most.as_str().as_bytes(), 0, REPORT)?;
     let more = repeated(alloc, "int main(void){ return 0", " + 1", 64, "; }")?;
-    refuses(&rt, alloc, more.as_str().as_bytes())
+    faulty(
+        &rt,
+        alloc,
+        more.as_str().as_bytes(),
+        "1:278: TooMany Nesting",
+    )
 }
 
 #[test]
@@ -321,7 +405,12 @@ fn there_are_up_to_1024_globals(rt: HostRuntime) -> Result<(), Fail> {
     let out = "trace 2\n0 read @1023.0 0\n0 end\nending finished\noutput 0\n";
     reports(&rt, alloc, most.as_str().as_bytes(), 0, out)?;
     let more = format!(in alloc; "int h; {declarations}int main(void){{ return 0; }}")?;
-    refuses(&rt, alloc, more.as_str().as_bytes())
+    faulty(
+        &rt,
+        alloc,
+        more.as_str().as_bytes(),
+        "1024:5: TooMany Globals",
+    )
 }
 
 #[test]

@@ -1,8 +1,9 @@
 use Rattle.std.proofs.Common.{◌≡◌, List, sym, subst}
 use Rattle.std.specs.Prelude.{pos, replicate}
 use Rattle.std.proofs.lemmas.Result.{IfOk-weaker}
+use Rattle.ca_tree.specs.declared.text.Pos.{Pos}
 use Rattle.ca_model.specs.declared.sums.Sums.{Sums}
-use Rattle.ca_model.specs.FirstForm.{Token, typed}
+use Rattle.ca_model.specs.FirstForm.{typed}
 use Rattle.ca_cmd.specs.declared.run.SourceRun.{SourceRun}
 use Rattle.ca_cmd.specs.Runs.{IsRunOfSource, AreSimple, HasEnded, traced}
 use Rattle.ca_cmd.specs.Running.{Traced, acts_run}
@@ -19,7 +20,7 @@ IsWhole f r = traced r ≡ whole f
 
 pub returns-clause-is_run : goal.returns-clause-is_run
 returns-clause-is_run c =
-    IfOk-weaker c.follow.result (IsWhole c.args.form.now) (λ r. (ts : List Token) → IsRunOfSource (typed c.args.form.now ts) r) (λ r is ts. is_run c.args.form.now ts c.requires r is) c.follow.ensures
+    IfOk-weaker c.follow.result (IsWhole c.args.form.now) (λ r. (places : List Pos) → IsRunOfSource (typed c.args.form.now places) r) (λ r is places. is_run c.args.form.now places c.requires r is) c.follow.ensures
 
 pub returns-clause-ended : goal.returns-clause-ended
 returns-clause-ended c =
