@@ -20,10 +20,10 @@ use Rattle.ca_model.specs.Frames.{Code}
 use Rattle.ca_model.specs.Machine.{by, State, Step, threads_after}
 use Rattle.ca_model.specs.Hardened.{Hardened, hardened, retry_site, taking, HardenedDue}
 use Rattle.ca_model.specs.Opening.{CanStep}
-use Rattle.ca_model.specs.Runner.{IsTimeout, since_last, Comes, Moves, TimesOut, IsReady, IsEnabled, AreEnabled}
+use Rattle.ca_model.specs.Runner.{IsLeastUnused, IsTimeout, since_last, Comes, Moves, TimesOut, IsReady, IsEnabled, AreEnabled}
 use Rattle.ca_model.proofs.Law.{one_of}
 use Rattle.ca_model.proofs.Members.{in_none, in_cons, at_head, at_tail}
-use Rattle.ca_model.proofs.Entries.{Used, EndedBelow, gives_at, the_entry}
+use Rattle.ca_model.proofs.Entries.{EndedBelow, gives_at, the_entry}
 use Rattle.ca_model.proofs.Creates.{frames_some}
 use Rattle.ca_model.proofs.OneEntry.{DueAt, answer_some, entry_of, comes_as, one_event}
 use Rattle.ca_model.proofs.MayCome.{Possible, decide}
@@ -110,7 +110,7 @@ module _ (code : Code) (events patience : ℕ) where
   due_from s t h (act.Retry site gives) due = due
   due_from s t h _ due = due
 
-  module _ (s : State Hardened) (past : List Event) (k : ℕ) (used : Used k s.shared.blocks) (few : k < 2 ^ 32) (ended : EndedBelow s.shared) (run : s.shared.phase ≡ Open) where
+  module _ (s : State Hardened) (past : List Event) (k : ℕ) (used : IsLeastUnused s.shared.blocks k) (few : k < 2 ^ 32) (ended : EndedBelow s.shared) (run : s.shared.phase ≡ Open) where
     -- an entry of a thread that goes on
     comes : (t : ℕ) (h : Hardened) → slice_get s.threads t ≡ Some h → t < s.shared.threads → set.contains s.shared.ended t ≡ false
         → (a : EventAct) → Possible code h s.shared t k (stand code h.frames).go (stand code h.frames).want a → (new : State Hardened) × Comes code events patience s t a new

@@ -5,7 +5,7 @@ use Rattle.std.specs.Ordering.{int_eq}
 use Rattle.std.specs.Str.{bytes_eq}
 use Rattle.std.specs.FinMap as map
 use Rattle.std.specs.FinSet as set
-use Rattle.std.proofs.lemmas.Bool.{and_parts, and_from, eqb-true, eq-eqb, lt-ltb, ltb-true, ltb-false, le-leb, leb-true, false_from_ne_true, cond-true, cond-false}
+use Rattle.std.proofs.lemmas.Bool.{and_parts, and_from, eqb-true, eq-eqb, lt-ltb, ltb-true, ltb-false, le-leb, leb-true, false_from_ne_true, cond-true, cond-false, cases_order, le-ltb}
 use Rattle.std.proofs.lemmas.Bool.Decides.{Decides-int_eq}
 use Rattle.std.proofs.lemmas.Slice.Eq.{bytes_eq-Decides}
 use Rattle.ca_tree.specs.declared.numbers.SiteId.{SiteId}
@@ -30,6 +30,24 @@ use Rattle.ca_model.proofs.Retries.{is_owner, owner_is, is_owner_so, is_heap, he
 -- the numbers of blocks that were used are those below k
 abbrev pub Used : ℕ → Blocks → Type 0
 Used k m = (b : ℕ) → is_some (map.get m b) ≡ nat_lt b k
+
+-- k is the least number never used
+pub is_none : {A : Type 0} (o : Option A) → is_some o ≡ false → o ≡ None
+is_none None e = refl
+is_none (Some x) e = absurd cc
+
+pub least_from : (m : Blocks) (k : ℕ) → Used k m → IsLeastUnused m k
+least_from m k used = (is_none (map.get m k) (used k ∙ le-ltb k k (omega arith)), λ c lt. used c ∙ lt-ltb c k lt)
+
+pub one_least : (m : Blocks) (k b : ℕ) → IsLeastUnused m k → IsLeastUnused m b → k ≡ b
+one_least m k b (none, below) (none', below') =
+    let not_below : k < b → ⊥ = λ lt. no_some (map.get m k) none (below' k lt) in
+    let not_above : b < k → ⊥ = λ lt. no_some (map.get m b) none' (below b lt) in
+    elim (cases_order k b) [ inl e ↦ e | inr (inl lt) ↦ absurd (not_below lt) | inr (inr gt) ↦ absurd (not_above gt) ]
+  where
+    no_some : {A : Type 0} (o : Option A) → o ≡ None → IsSome o → ⊥
+    no_some None e h = absurd cc
+    no_some (Some x) e h = absurd cc
 
 -- the threads that have ended were made by a create
 abbrev pub EndedBelow : Shared → Type 0
@@ -141,7 +159,7 @@ aimed_is (v.Addr b) by a e =
     let offset : b.offset +ℤ by ≡ a.offset = (Decides-int_eq (b.offset +ℤ by) a.offset).0 two.1 in
     λ i. record { block = block i; offset = offset i }
 
-reached_is : (m : Blocks) (at : Value) (by : ℤ) (a : Addr) → is_at at by a ≡ true → reached m at by ≡ cell m a.block a.offset
+pub reached_is : (m : Blocks) (at : Value) (by : ℤ) (a : Addr) → is_at at by a ≡ true → reached m at by ≡ cell m a.block a.offset
 reached_is m (v.Num n) by a e = absurd cc
 reached_is m (v.Addr b) by a e = ap (λ (c : Addr). cell m c.block c.offset) (aimed_is (v.Addr b) by a e)
 
@@ -185,9 +203,9 @@ least_is m k b used (none, below) =
     not_less : (k < b → IsSome (map.get m k)) → b ≤ k
     not_less h = ltb-false k b (false_from_ne_true (nat_lt k b) (λ e. omega (arith, ltb-true k k (sym (used k) ∙ h (ltb-true k b e)))))
 
-given_is : (m : Blocks) (k : ℕ) (cells : ℤ) (x : Value) → Used k m → IsGiven m cells x → given_value m k cells ≡ x
+given_is : (m : Blocks) (k : ℕ) (cells : ℤ) (x : Value) → IsLeastUnused m k → IsGiven m cells x → given_value m k cells ≡ x
 given_is m k cells x used (inl (fits, (b, least, is))) =
-    cond-true (room m cells) (block_at k) null (room_so m cells fits) ∙ (ap block_at (least_is m k b used least) ∙ sym is)
+    cond-true (room m cells) (block_at k) null (room_so m cells fits) ∙ (ap block_at (one_least m k b used least) ∙ sym is)
 given_is m k cells x used (inr (full, is)) = cond-false (room m cells) (block_at k) null (false_from_ne_true (room m cells) (λ e. full (room_is m cells e))) ∙ sym is
 
 some_write : (a : Addr) (x : Value) (o : Option Value) (missing : EventAct) → IsSome o → write_entry a x o missing ≡ act.Write a x
@@ -202,7 +220,7 @@ no_site : (r : Option SiteId) → (is_some r && true) ≡ false → r ≡ None
 no_site None e = refl
 no_site (Some s) e = absurd cc
 
-module _ (g : Shared) (t k : ℕ) (used : Used k g.blocks) (ended : EndedBelow g) (r : Option SiteId) (gives : List Given) where
+module _ (g : Shared) (t k : ℕ) (used : IsLeastUnused g.blocks k) (ended : EndedBelow g) (r : Option SiteId) (gives : List Given) where
   -- an entry that is neither a fault nor a retry
   pub plain_is : (w : Want) (a : EventAct) (y : Value) → answer w a ≡ Some y → Allows g t a → IsChosen g a → the_entry g t k r gives w ≡ Some a
   plain_is (Reads at by kd s) (act.Read a x) y e ok is =

@@ -4,7 +4,6 @@ pub mod Equations
 pub mod Answered
 pub mod Steps
 pub mod Silent
-pub mod Named
 pub mod PlainFrames
 pub mod Law
 pub mod Mapped
@@ -62,3 +61,4 @@ pub mod EnabledThreads
 pub mod RunnerEnds
 pub mod StraightLines
 pub mod FirstFormed
+pub mod FirstGlobals

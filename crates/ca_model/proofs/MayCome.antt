@@ -23,19 +23,15 @@ use Rattle.ca_model.specs.Frames.{Code}
 use Rattle.ca_model.specs.Private.{Thread, is_at, when, answer, may_fault, going_on, after_entry}
 use Rattle.ca_model.specs.Shared.{Shared, Blocks, cell, reached, CanFree, Allows, IsUnfit, FaultIsDue}
 use Rattle.ca_model.specs.Hardened.{Hardened, Saved, fresh, site_of, may_retry, took, taking, with_frames, retried, back, is_failing, hardened_by, FailsNow, NamesHeld}
-use Rattle.ca_model.specs.Runner.{HasRoom, IsChosen}
+use Rattle.ca_model.specs.Runner.{HasRoom, IsChosen, IsLeastUnused}
 use Rattle.ca_model.proofs.Retries.{is_owner, owner_is, is_owner_so, gives_of, gives_part, gives_held, gives_named}
-use Rattle.ca_model.proofs.Entries.{int_self, same_self, Used, retrying, gives_at, aimed, room, room_is, room_so, block_at, can_free, can_free_is, can_free_so, lock_entry, create_entry, the_entry}
+use Rattle.ca_model.proofs.Entries.{int_self, same_self, is_none, retrying, gives_at, aimed, room, room_is, room_so, block_at, can_free, can_free_is, can_free_so, lock_entry, create_entry, the_entry}
 use Rattle.ca_model.proofs.OneEntry.{DueAt}
 
 -- an access that reaches a cell reaches it at its address
 at_aimed : (m : Blocks) (at : Value) (by : ℤ) (x : Value) → reached m at by ≡ Some x → (is_at at by (aimed at by) ≡ true) × (cell m (aimed at by).block (aimed at by).offset ≡ Some x)
 at_aimed m (v.Num n) by x e = absurd cc
 at_aimed m (v.Addr a) by x e = (and_from (a.block == a.block) (int_eq (a.offset +ℤ by) (a.offset +ℤ by)) (eq-eqb a.block a.block refl) (int_self (a.offset +ℤ by)), e)
-
-is_none : {A : Type 0} (o : Option A) → is_some o ≡ false → o ≡ None
-is_none None e = refl
-is_none (Some x) e = absurd cc
 
 abbrev IsPlain : EventAct → Type 0
 IsPlain act.Save = ⊥
@@ -159,16 +155,16 @@ module _ (code : Code) (h : Hardened) (g : Shared) (t k : ℕ) (go : Value → T
       beyond : (w : ℕ) → u ≡ w → suc w < g.threads → ⊥
       beyond w is lt = omega (arith, is, lt, ltb-false (suc u) g.threads e)
 
-  module _ (used : Used k g.blocks) (few : k < 2 ^ 32) (some : 0 < g.threads) where
+  module _ (used : IsLeastUnused g.blocks k) (few : k < 2 ^ 32) (some : 0 < g.threads) where
     unused : map.get g.blocks k ≡ None
-    unused = is_none (map.get g.blocks k) (used k ∙ le-ltb k k (omega arith))
+    unused = used.0
 
     making : (cells : ℤ) (i : ItemId) (b : Bool) → room g.blocks cells ≡ b → Some_entry (Mallocs cells i)
     making cells i true e =
         let fits : HasRoom g.blocks cells = room_is g.blocks cells e in (
           act.Malloc cells (block_at k),
           plain_possible (Mallocs cells i) (act.Malloc cells (block_at k)) (block_at k) tt (ap (λ b. when b (block_at k)) (int_self cells))
-              (inr (k, fits.0, refl, fits.1, unused, few, fits.2)) (inl (fits, (k, (unused, λ c lt. used c ∙ lt-ltb c k lt), refl))),
+              (inr (k, fits.0, refl, fits.1, unused, few, fits.2)) (inl (fits, (k, used, refl))),
         )
     making cells i false e = (
       act.Malloc cells null,

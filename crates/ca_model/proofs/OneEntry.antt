@@ -14,11 +14,11 @@ use Rattle.ca_model.specs.Private.{Thread, Stand, stand, answer, may_fault, goin
 use Rattle.ca_model.specs.Shared.{Shared, Allows, IsDue}
 use Rattle.ca_model.specs.Machine.{State}
 use Rattle.ca_model.specs.Hardened.{Hardened, Saved, site_of, may_retry, retry_site, latest_first, is_part, with_frames, if_saves, retried, back, is_failing, hardened_by, FailsNow, NamesHeld, HardenedDue}
-use Rattle.ca_model.specs.Runner.{IsChosen, Comes}
+use Rattle.ca_model.specs.Runner.{IsChosen, Comes, IsLeastUnused}
 use Rattle.ca_model.proofs.Law.{one_of}
 use Rattle.ca_model.proofs.Retries.{gives_of, gives_part, gives_held, gives_named, one_list}
 use Rattle.ca_model.proofs.Creates.{frames_some}
-use Rattle.ca_model.proofs.Entries.{Used, EndedBelow, failing, retrying, gives_at, aimed, read_entry, write_entry, lock_entry, can_free, can_free_is, the_entry, plain_is, fault_is}
+use Rattle.ca_model.proofs.Entries.{EndedBelow, failing, retrying, gives_at, aimed, read_entry, write_entry, lock_entry, can_free, can_free_is, the_entry, plain_is, fault_is}
 
 -- whether the shared state gives an entry for a want
 abbrev pub DueAt : Shared → ℕ → Want → Option Saved → EventAct → Type 0
@@ -74,7 +74,7 @@ module _ (code : Code) (g : Shared) (t k : ℕ) where
   fails_now saved _ at gives e f = absurd cc
 
   -- the entry of a thread with saved frames, by what it wants
-  module _ (h : Hardened) (w : Want) (go : Value → Thread) (used : Used k g.blocks) (ended : EndedBelow g) where
+  module _ (h : Hardened) (w : Want) (go : Value → Thread) (used : IsLeastUnused g.blocks k) (ended : EndedBelow g) where
     entry_is : (a : EventAct) (x : Hardened) → hardened_by code h (record { want = w; go = go }) (may_retry code (site_of w) h.saved) a ≡ Some x → Allows g t a → DueAt g t w h.saved a → IsChosen g a
         → the_entry g t k (may_retry code (site_of w) h.saved) (gives_at g t h.saved) w ≡ Some a
     entry_is act.Save x own ok due is = saving w own
@@ -103,7 +103,7 @@ module _ (code : Code) (g : Shared) (t k : ℕ) where
 abbrev pub entry_of : Code → Shared → ℕ → ℕ → Hardened → Option EventAct
 entry_of code g t k h = the_entry g t k (retry_site code h) (gives_at g t h.saved) (stand code h.frames).want
 
-module _ (code : Code) (events patience : ℕ) (s : State Hardened) (t k : ℕ) (used : Used k s.shared.blocks) (ended : EndedBelow s.shared) where
+module _ (code : Code) (events patience : ℕ) (s : State Hardened) (t k : ℕ) (used : IsLeastUnused s.shared.blocks k) (ended : EndedBelow s.shared) where
   pub comes_as : (a : EventAct) (new : State Hardened) (c : Comes code events patience s t a new) → entry_of code s.shared t k c.step.before ≡ Some a
   comes_as a new c =
       let h = c.step.before in

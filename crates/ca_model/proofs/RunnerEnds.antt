@@ -20,6 +20,7 @@ use Rattle.ca_model.specs.Runner.{run_ending, frames_of, IsCrowded, Comes, AreEn
 use Rattle.ca_model.proofs.Law.{get_one}
 use Rattle.ca_model.proofs.Members.{in_none, at_head, at_tail}
 use Rattle.ca_model.proofs.SameLists.{HasAll}
+use Rattle.ca_model.proofs.Entries.{least_from}
 use Rattle.ca_model.proofs.RunnerStates.{Reached}
 use Rattle.ca_model.proofs.RunnerRuns.{next_reached}
 use Rattle.ca_model.proofs.EnabledThreads.{Known, enabled_list, enabled_comes, enabled_steps, no_step}
@@ -98,14 +99,14 @@ module _ (code : Code) (events patience blocks : ℕ) (few : events + blocks < 2
       | inl is ↦ ([], ending.Events, full run ((en.exactly x).0 (at_head x xs)) is)
       | inr ne ↦
           let p = some_picked c x xs in
-          let co = enabled_comes code events patience s past r.count r.used few_used (r.ended run) run p.0.thread ((en.exactly p.0.thread).0 p.2) in
+          let co = enabled_comes code events patience s past r.count (least_from s.shared.blocks r.count r.used) few_used (r.ended run) run p.0.thread ((en.exactly p.0.thread).0 p.2) in
           picked_run run x xs en ne p.0 p.1 co.0 co.1 co.2 (crowded_known s co.0)
     ]
 
     turn : (q : Phase) → s.shared.phase ≡ q → SomeRun c s past
     turn Finished e = ([], ending.Finished, finished e)
     turn (Failed k) e = ([], ending.Fault k, failed e)
-    turn Open e = let all = enabled_list code events patience s past r.count r.used few_used (r.ended e) e in enabled_run e all.0 all.1
+    turn Open e = let all = enabled_list code events patience s past r.count (least_from s.shared.blocks r.count r.used) few_used (r.ended e) e in enabled_run e all.0 all.1
 
   pub some_run : (left : ℕ) (c : Schedule) (s : State Hardened) (past : List Event) → left + length past ≡ events → Reached s.shared (blocks + length past) → SomeRun c s past
   some_run zero c s past total r = turn c s past (omega (arith, total)) r (λ ne after new e h. absurd (ne (omega (arith, total)))) s.shared.phase refl
@@ -122,8 +123,8 @@ module _ (code : Code) (events patience blocks : ℕ) (few : events + blocks < 2
   runs_end {s = s} within r (finished f) = (s, refl, f)
   runs_end {s = s} within r (failed f) = (s, refl, f)
   runs_end {s = s} {past = past} within r (stuck f en) =
-      (s, refl, (f, no_step code events patience s past r.count r.used (omega (arith, r.few, within, few)) (r.ended f) f (λ t e. in_none t ((en.exactly t).1 e))))
-  runs_end {s = s} {past = past} within r (full {t = t} f e l) = (s, refl, (f, enabled_steps code events patience s past r.count r.used (omega (arith, r.few, within, few)) (r.ended f) f t e))
+      (s, refl, (f, no_step code events patience s past r.count (least_from s.shared.blocks r.count r.used) (omega (arith, r.few, within, few)) (r.ended f) f (λ t e. in_none t ((en.exactly t).1 e))))
+  runs_end {s = s} {past = past} within r (full {t = t} f e l) = (s, refl, (f, enabled_steps code events patience s past r.count (least_from s.shared.blocks r.count r.used) (omega (arith, r.few, within, few)) (r.ended f) f t e))
   runs_end {s = s} within r (crowded {new = new} {p = p} {a = a} go en pk co cr) = (s, refl, (go.0, (by p.thread a, new, co.step)))
   runs_end {past = past} within r (goes_on {new = mid} {p = p} {a = a} go en pk co cr run) =
       let longer : length (past ++ by p.thread a ∷ []) ≡ length past + 1 = length-append past (by p.thread a ∷ []) in

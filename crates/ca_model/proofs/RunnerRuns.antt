@@ -14,6 +14,7 @@ use Rattle.ca_model.proofs.Steps.{next_is_fixed}
 use Rattle.ca_model.proofs.Members.{in_none}
 use Rattle.ca_model.proofs.SameLists.{same_ascending}
 use Rattle.ca_model.proofs.OneEntry.{one_event}
+use Rattle.ca_model.proofs.Entries.{least_from}
 use Rattle.ca_model.proofs.RunnerStates.{Reached, reached_after}
 
 -- no thread is picked where none is enabled
@@ -43,7 +44,7 @@ module _ (code : Code) (events patience : ℕ) where
   one_move c s past {xs} {ys} {p} {q} {a} {b} {new} {other} n r en en' pk pk' co co' =
       let picked : p ≡ q = one_of p q (sym pk ∙ (ap (λ l. pick l c) (one_enabled s past xs ys en en') ∙ pk')) in
       let co'' : Comes code events patience s p.thread b other = subst (λ (z : Pick). Comes code events patience s z.thread b other) (sym picked) co' in
-      let entry : a ≡ b = one_event code events patience s p.thread r.count r.used (r.ended co.step.legal.run) a b new other co co'' in
+      let entry : a ≡ b = one_event code events patience s p.thread r.count (least_from s.shared.blocks r.count r.used) (r.ended co.step.legal.run) a b new other co co'' in
       let step : Step (hardened code) s (by p.thread a) other = subst (λ z. Step (hardened code) s (by p.thread z) other) (sym entry) co''.step in
       (picked, entry, next_is_fixed (hardened code) s (by p.thread a) new other co.step step)
 

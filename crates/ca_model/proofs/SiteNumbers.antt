@@ -17,7 +17,7 @@ use Rattle.ca_model.proofs.Numbers.{act_count}
 use Rattle.ca_model.proofs.ApartItems.{AreApart, numbered_apart}
 
 -- the sites of one item
-count_after : (i : Item) (done more : List Access) → length (sites_after i done more) ≡ length (kinds more)
+pub count_after : (i : Item) (done more : List Access) → length (sites_after i done more) ≡ length (kinds more)
 count_after i done [] = refl
 count_after i done (At_site k ∷ more) = ap suc (count_after i (done ++ (At_site k ∷ [])) more)
 count_after i done (Named_load ∷ more) = count_after i (done ++ (Named_load ∷ [])) more

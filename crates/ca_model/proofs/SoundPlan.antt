@@ -23,7 +23,7 @@ use Rattle.ca_model.proofs.ApartItems.{links_are_items, one_function_a_first}
 use Rattle.ca_model.proofs.PlanTests.{begins_threads, true_begins, false_begins, is_back, back_true, true_back, ups, ups_true, true_ups}
 
 -- the item of a site is an item of the source
-of_item : (i : Item) (done as' : List Access) (s : Site) → Contains (sites_after i done as') s → i ≡ s.item
+pub of_item : (i : Item) (done as' : List Access) (s : Site) → Contains (sites_after i done as') s → i ≡ s.item
 of_item i done [] s c = absurd (in_none s c)
 of_item i done (At_site k ∷ more) s c = elim (in_cons (record { item = i; kind = k; earlier = done }) (sites_after i (done ++ (At_site k ∷ [])) more) s c) [
   | inl is ↦ ap (λ x. x.item) is
@@ -33,14 +33,14 @@ of_item i done (Named_load ∷ more) s c = of_item i (done ++ (Named_load ∷ []
 of_item i done (Named_store ∷ more) s c = of_item i (done ++ (Named_store ∷ [])) more s c
 of_item i done (Allocates ∷ more) s c = of_item i (done ++ (Allocates ∷ [])) more s c
 
-of_items : (is : List Item) (s : Site) → Contains (sites_in is) s → Contains is s.item
+pub of_items : (is : List Item) (s : Site) → Contains (sites_in is) s → Contains is s.item
 of_items [] s c = absurd (in_none s c)
 of_items (i ∷ is) s c = elim (Contains-append_cases (sites_after i [] (act_accesses i.act)) (sites_in is) s c) [
   | inl here ↦ subst (Contains (i ∷ is)) (of_item i [] (act_accesses i.act) s here) (at_head i is)
   | inr more ↦ at_tail i is s.item (of_items is s more)
 ]
 
-numbered_in : (ss : List Site) (n : ℕ) (s : Site) → numbered ss n ≡ Some s → Contains ss s
+pub numbered_in : (ss : List Site) (n : ℕ) (s : Site) → numbered ss n ≡ Some s → Contains ss s
 numbered_in ss zero s is = absurd (cc)
 numbered_in [] (suc n) s is = absurd (cc)
 numbered_in (x ∷ ss) (suc zero) s is = subst (Contains (x ∷ ss)) (one_of x s is) (at_head x ss)

@@ -28,6 +28,7 @@ pub mod Matched
 pub mod Schedules
 pub mod Runner
 pub mod WellFormed
+pub mod KnownGlobals
 pub mod Waits
 pub mod Begun
 pub mod Follows

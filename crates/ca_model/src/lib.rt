@@ -15,7 +15,7 @@ mod tree;
 mod values;
 
 pub use attempt_laws::{projections_have_no_marks, retries_are_bounded};
-pub use form_laws::the_first_form_is_well_formed;
+pub use form_laws::{the_first_form_is_well_formed, the_first_form_knows_its_globals};
 pub use frame_laws::{
     control_follows_links, frames_are_in_progress, items_begin_once, silent_steps_end,
 };
