@@ -35,6 +35,4 @@ pub mod Follows
 pub mod Numbering
 pub mod Traces
 pub mod Reports
-pub mod FirstForm
-pub mod FaultTexts
-pub mod Commands
+pub mod typing

@@ -9,15 +9,14 @@ use Rattle.ca_grammar.specs.Texts.{AProgram}
 use Rattle.ca_grammar.specs.Faults.{IsFault}
 use Rattle.ca_model.specs.declared.values.Event.{Event}
 use Rattle.ca_model.specs.declared.values.Ending.{Ending}
-use Rattle.ca_model.specs.declared.values.Ending.TheVariants as ending
 use Rattle.ca_model.specs.Private.{Thread}
 use Rattle.ca_model.specs.Machine.{State}
 use Rattle.ca_model.specs.Codes.{Typed}
-use Rattle.ca_model.specs.FirstForm.{AreFirst, IsFirstForm, StandsFor}
-use Rattle.ca_model.specs.FaultTexts.{lex_words, read_words, fault_at}
+use Rattle.ca_form.specs.FirstForm.{AreFirst, IsFirstForm, StandsFor}
+use Rattle.ca_cmd.specs.FaultTexts.{lex_words, read_words, fault_at}
 use Rattle.ca_model.specs.SourceRuns.{IsSourceRun, IsOver, rules_of}
 use Rattle.ca_model.specs.Traces.{line_end}
-use Rattle.ca_model.specs.Reports.{report}
+use Rattle.ca_model.specs.Reports.{ending_status, report}
 
 -- the most bytes that a source may have
 abbrev pub source_limit : ℕ
@@ -47,13 +46,6 @@ pub data Cause : Type 0 where
   NoProgram : (name : List ℕ) (fault : ReadFault) → Cause
   NotBuilt : (name : List ℕ) → Cause
   Ran : (name : List ℕ) (p : Typed) (events : List Event) (last : State Thread) (end : Ending) → Cause
-
--- the run of a source ends with a status of its own
-abbrev pub ending_status : Ending → ℕ
-ending_status ending.Finished = 0
-ending_status (ending.Fault k) = 1
-ending_status ending.Deadlock = 4
-ending_status _ = 5
 
 abbrev pub status : Cause → ℕ
 status Misworded = 2

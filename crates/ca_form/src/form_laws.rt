@@ -2,7 +2,7 @@
 
 ghost use Rattle.std.specs.Prelude.{ℕ, List};
 ghost use Rattle.ca_model.specs.Codes.{Typed};
-ghost use Rattle.ca_model.specs.FirstForm.{IsFirstForm};
+ghost use Rattle.ca_form.specs.FirstForm.{IsFirstForm};
 ghost use Rattle.ca_model.specs.KnownGlobals.{KnowsItsGlobals};
 ghost use Rattle.ca_model.specs.WellFormed.{IsWellFormed};
 

@@ -21,11 +21,11 @@ use Rattle.ca_model.specs.declared.tree.Act.{Act}
 use Rattle.ca_model.specs.declared.tree.Act.TheVariants as act
 use Rattle.ca_model.specs.declared.tree.Item.{Item}
 use Rattle.ca_model.specs.declared.tree.Stmt.TheVariants as s
-use Rattle.ca_model.specs.declared.sums.Part.{Part}
-use Rattle.ca_model.specs.declared.sums.Part.TheVariants as part
-use Rattle.ca_model.specs.declared.sums.SumAct.{SumAct}
-use Rattle.ca_model.specs.declared.sums.SumAct.TheVariants as sum_act
-use Rattle.ca_model.specs.declared.sums.Sums.{Sums}
+use Rattle.ca_form.specs.declared.parts.Part.{Part}
+use Rattle.ca_form.specs.declared.parts.Part.TheVariants as part
+use Rattle.ca_form.specs.declared.parts.SumAct.{SumAct}
+use Rattle.ca_form.specs.declared.parts.SumAct.TheVariants as sum_act
+use Rattle.ca_form.specs.declared.parts.Sums.{Sums}
 use Rattle.ca_model.specs.Arith.{null}
 use Rattle.ca_model.specs.Codes.{Typed}
 

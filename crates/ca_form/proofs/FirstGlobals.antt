@@ -18,15 +18,15 @@ use Rattle.ca_model.specs.declared.tree.Place.{Place, fold-roll-Place}
 use Rattle.ca_model.specs.declared.tree.Item.{Item}
 use Rattle.ca_model.specs.declared.tree.GlobalStart.{GlobalStart}
 use Rattle.ca_model.specs.declared.tree.Stmt.TheVariants as s
-use Rattle.ca_model.specs.declared.sums.Part.{Part}
-use Rattle.ca_model.specs.declared.sums.Part.TheVariants as part
-use Rattle.ca_model.specs.declared.sums.Sums.{Sums}
-use Rattle.ca_model.specs.declared.sums.SumAct.{SumAct}
-use Rattle.ca_model.specs.declared.sums.SumAct.TheVariants as sum_act
+use Rattle.ca_form.specs.declared.parts.Part.{Part}
+use Rattle.ca_form.specs.declared.parts.Part.TheVariants as part
+use Rattle.ca_form.specs.declared.parts.Sums.{Sums}
+use Rattle.ca_form.specs.declared.parts.SumAct.{SumAct}
+use Rattle.ca_form.specs.declared.parts.SumAct.TheVariants as sum_act
 use Rattle.ca_model.specs.Arith.{null}
 use Rattle.ca_model.specs.Codes.{Typed}
 use Rattle.ca_model.specs.Sites.{items_in_all, all_items}
-use Rattle.ca_model.specs.FirstForm.{IsPart, IsSum, last_part, more_parts, IsAct, sets, prints, AreActs, no_act, an_act, global_place, part_exp, sum_after, sum_exp, act_of, items_from, return_item, close_item, typed, IsFirstForm}
+use Rattle.ca_form.specs.FirstForm.{IsPart, IsSum, last_part, more_parts, IsAct, sets, prints, AreActs, no_act, an_act, global_place, part_exp, sum_after, sum_exp, act_of, items_from, return_item, close_item, typed, IsFirstForm}
 use Rattle.ca_model.proofs.Equations.{items_items}
 use Rattle.ca_model.proofs.Members.{in_none, in_cons}
 use Rattle.ca_model.specs.KnownGlobals.{exp_within, place_within, within, within_place, act_within, KnowsItsGlobals}

@@ -4,13 +4,13 @@ use Rattle.std.specs.Prelude.{nat_eq, ◌&&◌}
 use Rattle.std.proofs.lemmas.Bool.{eq-eqb}
 use Rattle.std.proofs.lemmas.List.{map-append}
 use Rattle.ca_tree.specs.declared.text.Pos.{Pos}
-use Rattle.ca_model.specs.declared.sums.Sums.{Sums}
-use Rattle.ca_model.specs.declared.sums.SumAct.{SumAct}
-use Rattle.ca_model.specs.declared.sums.SumAct.TheVariants as sum_act
+use Rattle.ca_form.specs.declared.parts.Sums.{Sums}
+use Rattle.ca_form.specs.declared.parts.SumAct.{SumAct}
+use Rattle.ca_form.specs.declared.parts.SumAct.TheVariants as sum_act
 use Rattle.ca_model.specs.declared.tree.Item.{Item}
 use Rattle.ca_model.specs.declared.tree.Stmt.TheVariants as s
 use Rattle.ca_model.specs.Codes.{Typed}
-use Rattle.ca_model.specs.FirstForm.{items_from, return_item, close_item, typed, IsFirstForm}
+use Rattle.ca_form.specs.FirstForm.{items_from, return_item, close_item, typed, IsFirstForm}
 use Rattle.ca_model.specs.WellFormed.{IsWellFormed}
 use Rattle.ca_model.proofs.StraightLines.{numbered, are_placed, straight_is_formed}
 
