@@ -60,3 +60,4 @@ pub mod MayCome
 pub mod EnabledThreads
 pub mod RunnerEnds
 pub mod StraightLines
+pub mod FirstFaults

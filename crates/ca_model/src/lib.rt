@@ -11,6 +11,7 @@ mod run_laws;
 mod runner_laws;
 mod tree;
 mod types;
+mod typing_laws;
 mod values;
 
 pub use attempt_laws::{projections_have_no_marks, retries_are_bounded};
@@ -34,4 +35,5 @@ pub use tree::{
     Act, BinOp, Exp, Function, GlobalStart, Item, LoadKind, Place, Stmt, Stmts, Target,
 };
 pub use types::{Kind, Meaning, ObjectType, Operand, TypeFault, TypeKind, ValueType, Wanted};
+pub use typing_laws::a_program_has_a_typing_or_a_fault;
 pub use values::{Addr, Ending, Event, EventAct, FaultKind, Given, Value};
