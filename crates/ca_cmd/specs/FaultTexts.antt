@@ -4,8 +4,8 @@ use Rattle.std.specs.Fmt.{decimal}
 use Rattle.ca_tree.specs.declared.text.Pos.{Pos}
 use Rattle.ca_tree.specs.declared.token.LexKind.{LexKind}
 use Rattle.ca_tree.specs.declared.token.LexKind.TheVariants as lex
-use Rattle.ca_grammar.specs.declared.faults.Counted.{Counted}
-use Rattle.ca_grammar.specs.declared.faults.Counted.TheVariants as counted
+use Rattle.ca_tree.specs.declared.counted.Counted.{Counted}
+use Rattle.ca_tree.specs.declared.counted.Counted.TheVariants as counted
 use Rattle.ca_grammar.specs.declared.faults.LeftOut.{LeftOut}
 use Rattle.ca_grammar.specs.declared.faults.LeftOut.TheVariants as left_out
 use Rattle.ca_grammar.specs.declared.faults.ReadKind.{ReadKind}

@@ -5,9 +5,10 @@ use Rattle.std.proofs.lemmas.List.{at_drop_more, at_drop_all}
 use Rattle.std.proofs.lemmas.Bool.{lt-leb, le-leb}
 use Rattle.std.proofs.lemmas.Bool.Decides.{nat_tests}
 use Rattle.ca_grammar.specs.declared.faults.Count.{Count}
-use Rattle.ca_grammar.specs.declared.faults.Counted.{Counted}
-use Rattle.ca_grammar.specs.declared.faults.Counted.TheVariants.{Items, NameBytes}
-use Rattle.ca_grammar.specs.Limits.{Rule, Limit, the_limits, within, most}
+use Rattle.ca_tree.specs.declared.counted.Counted.{Counted}
+use Rattle.ca_tree.specs.declared.counted.Counted.TheVariants.{Items, NameBytes}
+use Rattle.ca_tree.specs.Counts.{most}
+use Rattle.ca_grammar.specs.Limits.{Rule, Limit, the_limits, within}
 use Rattle.ca_grammar.specs.Reads.{exceeded, first_exceeded, or_else}
 use Rattle.ca_grammar.specs.Plan.{and_name, bytes_of_name, counted}
 use Rattle.ca_expressions.specs.Reading.{IsExceeded}

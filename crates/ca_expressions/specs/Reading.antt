@@ -7,7 +7,7 @@ use Rattle.ca_tree.specs.declared.token.Mark.{Mark}
 use Rattle.ca_tree.specs.declared.token.Mark.TheVariants as mark
 use Rattle.ca_tree.specs.declared.tree.Name.{Name}
 use Rattle.ca_grammar.specs.declared.faults.Count.{Count}
-use Rattle.ca_grammar.specs.declared.faults.Counted.{Counted}
+use Rattle.ca_tree.specs.declared.counted.Counted.{Counted}
 use Rattle.ca_grammar.specs.declared.faults.ReadKind.TheVariants.{TooMany}
 use Rattle.ca_grammar.specs.declared.operand.Operand.{Operand}
 use Rattle.ca_grammar.specs.Words.{The_mark, A_name}

@@ -1,7 +1,7 @@
 //! The limits that are counted at a token.
 
 ghost use Rattle.std.specs.Prelude.{◌≡◌, Some, None};
-ghost use Rattle.ca_grammar.specs.Limits.{most};
+ghost use Rattle.ca_tree.specs.Counts.{most};
 ghost use Rattle.ca_grammar.specs.Plan.{and_name};
 ghost use Rattle.ca_expressions.specs.Reading.{IsExceeded};
 

@@ -1,7 +1,7 @@
 //! The words that are no names.
 
 ghost use Rattle.std.specs.Prelude.{◌≡◌};
-ghost use Rattle.ca_grammar.specs.Words.{is_left_out, is_library_word, is_one_of, is_reserved, kept_keywords, library_words, plain_left_out, reserved_names, underscored_left_out};
+ghost use Rattle.ca_tree.specs.Names.{is_left_out, is_library_word, is_one_of, is_reserved, kept_keywords, library_words, plain_left_out, reserved_names, underscored_left_out};
 
 fn is_kept_keyword(word: &[u8]) -> bool
     ensures { result ≡ is_one_of kept_keywords word.now }
@@ -72,7 +72,7 @@ fn is_reserved_name(word: &[u8]) -> bool
 }
 
 /// Whether a word is a keyword of C11 that the grammar doesn't have.
-#[tactic(auto, unfolding(ca_grammar::specs::Words::is_left_out))]
+#[tactic(auto, unfolding(ca_tree::specs::Names::is_left_out))]
 pub fn is_left_out(word: &[u8]) -> bool
     ensures { result ≡ is_left_out word.now }
 {
@@ -80,7 +80,7 @@ pub fn is_left_out(word: &[u8]) -> bool
 }
 
 /// Whether a word is no name: a keyword of C11, or a word of the libraries that names no call.
-#[tactic(auto, unfolding(ca_grammar::specs::Words::is_reserved))]
+#[tactic(auto, unfolding(ca_tree::specs::Names::is_reserved))]
 pub fn is_reserved(word: &[u8]) -> bool
     ensures { result ≡ is_reserved word.now }
 {
@@ -101,7 +101,7 @@ fn is_call_word(word: &[u8]) -> bool
 }
 
 /// Whether a word calls a function of the library.
-#[tactic(auto, unfolding(ca_grammar::specs::Words::is_library_word))]
+#[tactic(auto, unfolding(ca_tree::specs::Names::is_library_word))]
 pub fn is_library_word(word: &[u8]) -> bool
     ensures { result ≡ is_library_word word.now }
 {

@@ -6,7 +6,8 @@ use Rattle.std.proofs.Math.Dec.{eqb-suc-zero}
 use Rattle.ca_tree.specs.declared.text.Pos.{Pos}
 use Rattle.ca_tree.specs.declared.token.Mark.TheVariants.{Semicolon}
 use Rattle.ca_tree.specs.declared.token.Token.{Token}
-use Rattle.ca_grammar.specs.Words.{Class, The_word, The_end, Takes, Lacks, Skips, close_brace, semicolon, is_reserved}
+use Rattle.ca_tree.specs.Names.{is_reserved}
+use Rattle.ca_grammar.specs.Words.{Class, The_word, The_end, Takes, Lacks, Skips, close_brace, semicolon}
 use Rattle.ca_form.specs.declared.parts.Part.{Part}
 use Rattle.ca_form.specs.declared.parts.SumAct.{SumAct}
 use Rattle.ca_form.specs.declared.parts.Sums.{Sums}

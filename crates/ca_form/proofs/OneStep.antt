@@ -7,7 +7,8 @@ use Rattle.ca_tree.specs.declared.token.Mark.TheVariants.{Plus}
 use Rattle.ca_tree.specs.declared.token.Word.TheVariants as word
 use Rattle.ca_tree.specs.declared.token.Token.{Token}
 use Rattle.ca_tree.specs.Lexed.{token}
-use Rattle.ca_grammar.specs.Words.{Class, Of, The_mark, The_word, A_name_of_the_source, Takes, Lacks, Skips, is_library_word}
+use Rattle.ca_tree.specs.Names.{is_library_word}
+use Rattle.ca_grammar.specs.Words.{Class, Of, The_mark, The_word, A_name_of_the_source, Takes, Lacks, Skips}
 use Rattle.ca_expressions.proofs.Following.{other_mark}
 
 abbrev pub plus : Class

@@ -8,7 +8,8 @@ use Rattle.ca_tree.specs.declared.numbers.FunId.{FunId}
 use Rattle.ca_tree.specs.declared.tree.Program.{Program}
 use Rattle.ca_tree.specs.Places.{start}
 use Rattle.ca_tree.specs.Lexed.{HasTokens}
-use Rattle.ca_grammar.specs.Words.{The_mark, The_word, The_end, A_number, A_string, A_name_of_the_source, Takes, Skips, open_paren, close_paren, open_brace, close_brace, comma, semicolon, assign, is_one_of}
+use Rattle.ca_tree.specs.Names.{is_one_of}
+use Rattle.ca_grammar.specs.Words.{The_mark, The_word, The_end, A_number, A_string, A_name_of_the_source, Takes, Skips, open_paren, close_paren, open_brace, close_brace, comma, semicolon, assign}
 use Rattle.ca_grammar.specs.Declarations.{IsProgram}
 use Rattle.ca_grammar.specs.Laws.{all_kept}
 use Rattle.ca_model.specs.declared.tree.LoadKind.TheVariants as kind

@@ -3,7 +3,8 @@
 ghost use Rattle.std.specs.Prelude.{◌≡◌, ◌≢◌, ◌<◌, ◌≤◌, ◌↔◌, [], ℕ, List, map, length, false, codes, IfOk, IfSome, IfNone, IsTrue, MatchOption};
 ghost use Rattle.ca_tree.specs.declared.text.Pos.{Pos};
 ghost use Rattle.ca_tree.specs.declared.token.Token.{Token};
-ghost use Rattle.ca_grammar.specs.Words.{The_word, Skips, is_one_of};
+ghost use Rattle.ca_tree.specs.Names.{is_one_of};
+ghost use Rattle.ca_grammar.specs.Words.{The_word, Skips};
 ghost use Rattle.ca_form.specs.declared.parts.Sums.{Sums};
 ghost use Rattle.ca_model.specs.Codes.{Typed};
 ghost use Rattle.ca_form.specs.FirstForm.{AreGlobals, AreNamesAfter, IsHeading, IsBody, AreFirst, IsClosed, typed};

@@ -15,8 +15,9 @@ use Rattle.ca_tree.specs.declared.tree.BinaryOp.{BinaryOp}
 use Rattle.ca_tree.specs.Lexed.{token}
 use Rattle.ca_tree.specs.Tokens.{spelling}
 use Rattle.ca_grammar.specs.declared.faults.Count.{Count}
-use Rattle.ca_grammar.specs.declared.faults.Counted.TheVariants.{NameBytes}
-use Rattle.ca_grammar.specs.Words.{Class, The_mark, The_word, A_number, A_string, A_name, A_name_of_the_source, A_unary_operator, A_binary_operator, An_update_operator, A_step_operator, The_end, Of, Is, Takes, Lacks, unary_operator, binary_operator, level, update_operator, step_operator, is_reserved, is_left_out, null_word}
+use Rattle.ca_tree.specs.declared.counted.Counted.TheVariants.{NameBytes}
+use Rattle.ca_tree.specs.Names.{is_reserved, is_left_out}
+use Rattle.ca_grammar.specs.Words.{Class, The_mark, The_word, A_number, A_string, A_name, A_name_of_the_source, A_unary_operator, A_binary_operator, An_update_operator, A_step_operator, The_end, Of, Is, Takes, Lacks, unary_operator, binary_operator, level, update_operator, step_operator, null_word}
 use Rattle.ca_grammar.specs.Limits.{Rule, Limit, Limits, within, kept, Firm}
 use Rattle.ca_grammar.specs.Expressions.{Part, Spells}
 use Rattle.ca_grammar.specs.Expressions as g

@@ -26,14 +26,15 @@ use Rattle.ca_tree.specs.declared.tree.Program.{Program}
 use Rattle.ca_tree.specs.declared.tree.Top.{Top}
 use Rattle.ca_tree.specs.declared.tree.Top.TheVariants as top
 use Rattle.ca_grammar.specs.declared.faults.Count.{Count}
-use Rattle.ca_grammar.specs.declared.faults.Counted.{Counted}
-use Rattle.ca_grammar.specs.declared.faults.Counted.TheVariants as counts
+use Rattle.ca_tree.specs.declared.counted.Counted.{Counted}
+use Rattle.ca_tree.specs.declared.counted.Counted.TheVariants as counts
+use Rattle.ca_tree.specs.Counts.{Totals, one_more_global, one_more_mutex, one_more_struct}
 use Rattle.ca_grammar.specs.Words.{Class, The_word, A_name, Of, Takes, Skips, open_brace, comma, semicolon, star}
 use Rattle.ca_grammar.specs.Limits.{Limit, Depth, Star, Limits, within, Allowed, kept}
 use Rattle.ca_grammar.specs.Expressions.{name}
 use Rattle.ca_grammar.specs.Phrases as phrase
 use Rattle.ca_grammar.specs.Declarations as g
-use Rattle.ca_grammar.specs.Declarations.{Totals, one_more_global, one_more_mutex, one_more_struct, stars_missing}
+use Rattle.ca_grammar.specs.Declarations.{stars_missing}
 use Rattle.ca_grammar.specs.Goals.{Goal, Totalled, Field_declarators, A_field, More_fields, Mutexes, Threads, A_constant, Behind_global, More_globals, Next_global, Behind_type, More_parameters, Next_parameter, Parameters, Body_of, Function_of, Behind_paren, Behind_base, Behind_void, Qualified, Behind_tag, A_top, Tops, A_program, Tree}
 use Rattle.ca_grammar.specs.Plan.{and_name, counted}
 use Rattle.ca_grammar.specs.DeclarationPlans.{totalled, behind_top, behind_mutex, behind_thread, a_global, global, a_parameter, unnamed}

@@ -30,14 +30,16 @@ use Rattle.ca_tree.specs.declared.tree.Program.{Program}
 use Rattle.ca_tree.specs.declared.tree.Top.{Top}
 use Rattle.ca_tree.specs.declared.tree.Top.TheVariants as top
 use Rattle.ca_grammar.specs.declared.faults.Count.{Count}
-use Rattle.ca_grammar.specs.declared.faults.Counted.{Counted}
-use Rattle.ca_grammar.specs.declared.faults.Counted.TheVariants as counts
+use Rattle.ca_tree.specs.declared.counted.Counted.{Counted}
+use Rattle.ca_tree.specs.declared.counted.Counted.TheVariants as counts
+use Rattle.ca_tree.specs.Counts.{Totals, one_more_global, one_more_mutex, one_more_struct, nothing_yet}
+use Rattle.ca_tree.specs.PhraseTrees.{has_star}
 use Rattle.ca_grammar.specs.Words.{Class, The_mark, The_word, A_number, A_name, The_end, Of, Takes, Skips, Lacks, place, null_word, open_paren, close_paren, open_brace, close_brace, comma, semicolon, star, assign}
 use Rattle.ca_grammar.specs.Limits.{Limit, Star, Limits, Allowed, kept}
 use Rattle.ca_grammar.specs.Expressions.{name}
 use Rattle.ca_grammar.specs.Phrases as phrase
 use Rattle.ca_grammar.specs.Declarations as g
-use Rattle.ca_grammar.specs.Declarations.{Totals, one_more_global, one_more_mutex, one_more_struct, stars_missing, nothing_yet}
+use Rattle.ca_grammar.specs.Declarations.{stars_missing}
 use Rattle.ca_grammar.specs.Goals.{Goal, Starred, Totalled, Stars, Starred_name, Base_at, Statements, Field_declarators, A_field, More_fields, Mutexes, Threads, A_constant, Behind_global, More_globals, Next_global, Behind_type, More_parameters, Next_parameter, Parameters, Body_of, Function_of, Behind_paren, Behind_base, Behind_void, Qualified, Behind_tag, A_top, Tops, A_program, Tree}
 use Rattle.ca_grammar.specs.Plan.{Plan, give, take, want, call, last, no_counts, these, and_name, bytes_of_name, counted}
 use Rattle.ca_grammar.specs.PhrasePlans.{must, maybe}
@@ -200,7 +202,7 @@ module _ (limits : Limits) (k : ℕ) where
   module _ (reads_starred_name : ReadsStarredName) (reads_base : ReadsBase) where
     -- a declarator of a field, and what is read behind it
     field_read : {b : Base} {j m : ℕ} {p : Pos} {y : List ℕ} {f : Starred → Plan (Field_declarators b j)} {a : List Declarator} {ts us vs ws : List Token}
-        → phrase.Spells (kept limits k) (phrase.Stars 0) m ts us → phrase.has_star b m ≡ true → kept limits k (Limit counts.Fields) (suc j) us ≡ true → phrase.Names (kept limits k) us p y vs
+        → phrase.Spells (kept limits k) (phrase.Stars 0) m ts us → has_star b m ≡ true → kept limits k (Limit counts.Fields) (suc j) us ≡ true → phrase.Names (kept limits k) us p y vs
         → ((q : Pos) → Through limits k (Field_declarators b j) (f (record { pos = q; stars = m; name = name p y })) a vs ws)
         → Through limits k (Field_declarators b j) (call (Starred_name [] (counted counts.Fields (suc j) ∷ []) b) f) a ts ws
     field_read {b} {j} {m} {p} {y} {ts = ts} {us} {vs} s h i n r =
@@ -299,7 +301,7 @@ module _ (limits : Limits) (k : ℕ) where
       no_star : Lacks star ts
 
     value_read : {goal : Goal} (j : ℕ) (f : ParameterType → Plan goal) {a : Tree goal} {b : Base} {m : ℕ} {ts us vs ws : List Token} → phrase.Spells (kept limits k) phrase.A_base b ts us
-        → phrase.Spells (kept limits k) (phrase.Stars 0) m us vs → phrase.has_star b m ≡ true → Lacks star vs → Through limits k goal (f (parameter.Value (record { base = b; stars = m }))) a vs ws
+        → phrase.Spells (kept limits k) (phrase.Stars 0) m us vs → has_star b m ≡ true → Lacks star vs → Through limits k goal (f (parameter.Value (record { base = b; stars = m }))) a vs ws
         → Through limits k goal (maybe (The_word (codes "int")) (behind_int goal j f) (must (The_word (codes "struct")) (behind_struct goal j f))) a ts ws
     value_read j f {m = m} {us = us} {vs = vs} (phrase.int_base i) s h l r = t_maybe i (t_calls (reads_stars limits k 0 m us vs s l) r)
     value_read j f (phrase.struct_base i n) phrase.no_star h l r = absurd cc

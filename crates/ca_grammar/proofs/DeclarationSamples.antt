@@ -18,14 +18,17 @@ use Rattle.ca_tree.specs.declared.tree.ParameterType.TheVariants as parameter
 use Rattle.ca_tree.specs.declared.tree.Top.TheVariants as top
 use Rattle.ca_tree.specs.Lexed.{token}
 use Rattle.ca_tree.specs.Places.{start}
-use Rattle.ca_grammar.specs.declared.faults.Counted.{Counted}
-use Rattle.ca_grammar.specs.declared.faults.Counted.TheVariants as counts
-use Rattle.ca_grammar.specs.Words.{The_mark, The_word, Skips, is_reserved, is_left_out}
+use Rattle.ca_tree.specs.declared.counted.Counted.{Counted}
+use Rattle.ca_tree.specs.declared.counted.Counted.TheVariants as counts
+use Rattle.ca_tree.specs.Counts.{Totals, one_more_global, one_more_mutex, nothing_yet}
+use Rattle.ca_tree.specs.Names.{is_reserved, is_left_out}
+use Rattle.ca_tree.specs.PhraseTrees.{has_star}
+use Rattle.ca_grammar.specs.Words.{The_mark, The_word, Skips}
 use Rattle.ca_grammar.specs.Limits.{Limit, Limits, within, kept}
 use Rattle.ca_grammar.specs.Expressions.{name}
 use Rattle.ca_grammar.specs.Phrases as phrase
 use Rattle.ca_grammar.specs.Declarations as g
-use Rattle.ca_grammar.specs.Declarations.{Totals, one_more_global, one_more_mutex, stars_missing, nothing_yet}
+use Rattle.ca_grammar.specs.Declarations.{stars_missing}
 use Rattle.ca_grammar.specs.Goals.{Field_declarators, A_field, More_fields, Mutexes, Threads, A_constant, Behind_global, More_globals, Next_global, Behind_type, More_parameters, Next_parameter, Parameters, Body_of, Function_of, Behind_paren, Behind_base, Behind_void, Qualified, Behind_tag, A_top, Tops, A_program}
 use Rattle.ca_grammar.specs.DeclarationPlans.{totalled, global, unnamed}
 use Rattle.ca_grammar.proofs.Loose.{Sample, NamedBefore}
@@ -64,7 +67,7 @@ names_x limits k us h = record { takes = record { first = word.Name (codes "x");
 one_star : (limits : Limits) (k : ℕ) (us : List Token) → phrase.Spells (kept limits k) (phrase.Stars 0) 1 (a_mark mark.Star ∷ us) us
 one_star limits k us = phrase.a_star (marked mark.Star us) phrase.no_star
 
-has_one : (b : Base) → phrase.has_star b 1 ≡ true
+has_one : (b : Base) → has_star b 1 ≡ true
 has_one base.Int = refl
 has_one (base.Struct x) = refl
 

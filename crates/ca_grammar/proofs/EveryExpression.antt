@@ -17,15 +17,16 @@ use Rattle.ca_tree.specs.declared.tree.Exp.TheOpen.{Exp-F}
 use Rattle.ca_tree.specs.declared.tree.Exp.TheVariants as e
 use Rattle.ca_tree.specs.Lexed.{token}
 use Rattle.ca_tree.specs.Places.{start}
-use Rattle.ca_grammar.specs.declared.faults.Counted.TheVariants.{NameBytes}
+use Rattle.ca_tree.specs.declared.counted.Counted.TheVariants.{NameBytes}
+use Rattle.ca_tree.specs.Names.{is_reserved}
+use Rattle.ca_tree.specs.TreeWords.{any_words}
+use Rattle.ca_tree.specs.ExpressionTrees.{depth_step, depth, is_short_name, names_step, has_names, place_step, place_of, IsWhole}
 use Rattle.ca_grammar.specs.declared.operand.Operand.{Operand}
-use Rattle.ca_grammar.specs.Words.{Class, The_mark, A_name, Of, Is, Takes, unary_operator, binary_operator, level, is_reserved}
+use Rattle.ca_grammar.specs.Words.{Class, The_mark, A_name, Of, Is, Takes, unary_operator, binary_operator, level}
 use Rattle.ca_grammar.specs.Limits.{Limit}
 use Rattle.ca_grammar.specs.Expressions.{Primary, Level, Spells}
 use Rattle.ca_grammar.specs.Expressions as g
 use Rattle.ca_grammar.specs.Phrases.{Expression, Unary}
-use Rattle.ca_grammar.specs.Trees.{depth_step, depth, is_short_name, names_step, has_names}
-use Rattle.ca_grammar.specs.ProgramTrees.{place_step, place_of, IsWhole}
 use Rattle.ca_grammar.specs.Laws.{all_kept}
 
 -- ---- tokens
@@ -73,10 +74,10 @@ mark_of_binary op.Or = record { sign = mark.Or; below = 5; above = 0; reads = re
 
 -- ---- names
 
-pub name_taken : (n : Name) (us : List Token) → is_short_name n ≡ true → Takes A_name (token n.pos (word.Name n.text) ∷ us) n.pos n.text us
+pub name_taken : (n : Name) (us : List Token) → is_short_name any_words n ≡ true → Takes A_name (token n.pos (word.Name n.text) ∷ us) n.pos n.text us
 name_taken n us h = at_first n.pos (word.Name n.text) n.text us (refl, not-true (is_reserved n.text) (and_parts (not (is_reserved n.text)) (nat_le (length n.text) 63) h).0)
 
-pub name_kept : (n : Name) (us : List Token) → is_short_name n ≡ true → all_kept (Limit NameBytes) (length n.text) (token n.pos (word.Name n.text) ∷ us) ≡ true
+pub name_kept : (n : Name) (us : List Token) → is_short_name any_words n ≡ true → all_kept (Limit NameBytes) (length n.text) (token n.pos (word.Name n.text) ∷ us) ≡ true
 name_kept n us h = or_right (nat_lt (length (token n.pos (word.Name n.text) ∷ us)) 0) (nat_le (length n.text) 63) (and_parts (not (is_reserved n.text)) (nat_le (length n.text) 63) h).1
 
 -- ---- levels
@@ -120,7 +121,7 @@ enclose {a} {b} {d} {q} {tokens} s same =
 
 -- an expression for whose names there is such a spelling
 abbrev Such : Type 0
-Such = (a : Exp) × (has_names a ≡ true → Enclosed a (depth a) (place_of a))
+Such = (a : Exp) × (has_names any_words a ≡ true → Enclosed a (depth a) (place_of a))
 
 abbrev tree : Exp-F Such → Exp-F Exp
 tree x = map-Exp Such Exp (λ a. a.0) x
@@ -129,7 +130,7 @@ abbrev SuchOf : Exp-F Exp → Type 0
 SuchOf x = Enclosed (roll-Exp x) (depth_step (map-Exp Exp ℕ depth x)) (place_step (map-Exp Exp Pos place_of x))
 
 -- one whose parts have such a spelling has one
-each : (x : Exp-F Such) → names_step (map-Exp Exp Bool has_names (tree x)) ≡ true → SuchOf (tree x)
+each : (x : Exp-F Such) → names_step any_words (map-Exp Exp Bool (has_names any_words) (tree x)) ≡ true → SuchOf (tree x)
 each (Exp-F.Number p n) h = enclose (λ us. at_level 6 (g.a_number (at_first p (word.Number n) n us (refl, h)))) (e.rolls-Number p n)
 each (Exp-F.Null p) h = enclose (λ us. at_level 6 (g.a_null (at_first p (word.Name (codes "NULL")) tt us refl))) (e.rolls-Null p)
 each (Exp-F.Name n) h = enclose (λ us. at_level 6 (g.a_name (name_taken n us h) (name_kept n us h))) (e.rolls-Name n)
@@ -139,7 +140,7 @@ each (Exp-F.Unary p o a) h =
     enclose (λ us. up_to_six 6 0 refl (g.a_unary (at_first p (word.Mark m.sign) o _ m.reads) (at_level 0 (x.spells p us)))) (e.rolls-Unary p o a.0)
 each (Exp-F.Binary p o a b) h =
     let m = mark_of_binary o in
-    let both = and_parts (has_names a.0) (has_names b.0) h in
+    let both = and_parts (has_names any_words a.0) (has_names any_words b.0) h in
     let x = a.1 both.0 in
     let y = b.1 both.1 in
     enclose
@@ -148,7 +149,7 @@ each (Exp-F.Binary p o a b) h =
     (g.an_operator (at_first p (word.Mark m.sign) o _ (m.reads, m.levelled)) (at_level m.below (y.spells p us)) g.no_operator)))
     (e.rolls-Binary p o a.0 b.0)
 each (Exp-F.Index p a i) h =
-    let both = and_parts (has_names a.0) (has_names i.0) h in
+    let both = and_parts (has_names any_words a.0) (has_names any_words i.0) h in
     let x = a.1 both.0 in
     let y = i.1 both.1 in
     enclose
@@ -156,25 +157,25 @@ each (Exp-F.Index p a i) h =
     (g.an_index (of_mark mark.OpenBracket p _) (at_level 6 (y.spells p _)) (of_mark mark.CloseBracket p us) g.no_postfix))))
     (e.rolls-Index p a.0 i.0)
 each (Exp-F.Field p a n) h =
-    let both = and_parts (has_names a.0) (is_short_name n) h in
+    let both = and_parts (has_names any_words a.0) (is_short_name any_words n) h in
     let x = a.1 both.0 in
     enclose
     (λ us. up_to_six 6 0 refl (g.a_postfix (g.postfix (x.spells p _) (g.a_field (of_mark mark.Dot p _) (name_taken n us both.1) (name_kept n us both.1) g.no_postfix))))
     (e.rolls-Field p a.0 n)
 each (Exp-F.Arrow p a n) h =
-    let both = and_parts (has_names a.0) (is_short_name n) h in
+    let both = and_parts (has_names any_words a.0) (is_short_name any_words n) h in
     let x = a.1 both.0 in
     enclose
     (λ us. up_to_six 6 0 refl (g.a_postfix (g.postfix (x.spells p _) (g.an_arrow (of_mark mark.Arrow p _) (name_taken n us both.1) (name_kept n us both.1) g.no_postfix))))
     (e.rolls-Arrow p a.0 n)
 
-enclosed_if_named : (x : Exp-F Exp) → (names_step (map-Exp Exp Bool has_names x) ≡ true → SuchOf x) → has_names (roll-Exp x) ≡ true → Enclosed (roll-Exp x) (depth (roll-Exp x)) (place_of (roll-Exp x))
+enclosed_if_named : (x : Exp-F Exp) → (names_step any_words (map-Exp Exp Bool (has_names any_words) x) ≡ true → SuchOf x) → has_names any_words (roll-Exp x) ≡ true → Enclosed (roll-Exp x) (depth (roll-Exp x)) (place_of (roll-Exp x))
 enclosed_if_named x s h =
     subst (λ q. Enclosed (roll-Exp x) (depth (roll-Exp x)) q) (sym (fold-roll-Exp Pos place_step x))
-    (subst (λ d. Enclosed (roll-Exp x) d (place_step (map-Exp Exp Pos place_of x))) (sym (fold-roll-Exp ℕ depth_step x)) (s (sym (fold-roll-Exp Bool names_step x) ∙ h)))
+    (subst (λ d. Enclosed (roll-Exp x) d (place_step (map-Exp Exp Pos place_of x))) (sym (fold-roll-Exp ℕ depth_step x)) (s (sym (fold-roll-Exp Bool (names_step any_words) x) ∙ h)))
 
 abbrev IsEnclosed : Exp → Type 0
-IsEnclosed a = has_names a ≡ true → Enclosed a (depth a) (place_of a)
+IsEnclosed a = has_names any_words a ≡ true → Enclosed a (depth a) (place_of a)
 
 every_enclosed : (a : Exp) → IsEnclosed a
 every_enclosed = ind-Exp IsEnclosed (λ x y is. subst (λ z. IsEnclosed (roll-Exp z)) is (enclosed_if_named (tree y) (each y)))
@@ -189,7 +190,7 @@ pub record Whole (a : Exp) : Type 0 where
   pub expression : (p : Pos) (us : List Token) → Expression all_kept (in_parentheses p a) (opened p (inside us)) us
   pub unary : (p : Pos) (us : List Token) → Unary all_kept (in_parentheses p a) (opened p (inside us)) us
 
-pub whole : (a : Exp) → IsWhole a → Whole a
+pub whole : (a : Exp) → IsWhole any_words a → Whole a
 whole a h =
     let x = every_enclosed a h.names in
     let shallow = le-leb (depth a) 64 h.shallow in

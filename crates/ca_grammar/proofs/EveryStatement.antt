@@ -16,15 +16,16 @@ use Rattle.ca_tree.specs.declared.tree.ForFirst.{ForFirst}
 use Rattle.ca_tree.specs.declared.tree.Stmt.{Stmt}
 use Rattle.ca_tree.specs.Lexed.{token}
 use Rattle.ca_tree.specs.Places.{start}
-use Rattle.ca_grammar.specs.declared.faults.Counted.TheVariants as counted
+use Rattle.ca_tree.specs.declared.counted.Counted.TheVariants as counted
+use Rattle.ca_tree.specs.Counts.{most}
+use Rattle.ca_tree.specs.TreeWords.{any_words}
+use Rattle.ca_tree.specs.StatementTrees.{Branch, Head, RoomForItem, IsSimpleItem, IsLocal, MoreLocals, MoreThreads, IsLocals, IsFirst, IsCondition, IsStep, Part, Unbraced, A_statement, A_body, Statements, Tree, IsTree}
 use Rattle.ca_grammar.specs.Words.{place}
-use Rattle.ca_grammar.specs.Limits.{most}
 use Rattle.ca_grammar.specs.Phrases.{A_simple}
 use Rattle.ca_grammar.specs.Phrases as phrase
-use Rattle.ca_grammar.specs.Statements.{Branch, Head, Begins, Conditions, Declared, A_declarator, More_declarators, More_threads, For_first, For_condition, For_step, Spells}
+use Rattle.ca_grammar.specs.Statements.{Begins, Conditions, Declared, A_declarator, More_declarators, More_threads, For_first, For_condition, For_step, Spells}
 use Rattle.ca_grammar.specs.Statements as statement
-use Rattle.ca_grammar.specs.ProgramTrees.{RoomForItem, IsSimpleItem, IsLocal, MoreLocals, MoreThreads, IsLocals, IsFirst, IsCondition, IsStep, Part, Unbraced, A_statement, A_body, Statements, Tree, IsTree}
-use Rattle.ca_grammar.specs.ProgramTrees as tree
+use Rattle.ca_tree.specs.StatementTrees as tree
 use Rattle.ca_grammar.specs.Laws.{all_kept}
 use Rattle.ca_grammar.proofs.EveryExpression.{of_mark, opened, in_parentheses, Whole, whole}
 use Rattle.ca_grammar.proofs.EveryPhrase.{Spelled, spell, SpelledAt, begin, lacks_brace, allowed_up_to, marked, worded, the_mark, the_word_taken, the_word, named, the_name, base_spelled, starred, stars_spelled, initializer_spelled, optional_spelled, simple_spelled}
@@ -53,7 +54,7 @@ record Local (b : Base) (n : ℕ) (p : Pos) (d : LocalDeclarator) : Type 0 where
   behind : List Token → List Token
   spells : (us : List Token) → Spells_as (A_declarator b p) n d (suc n) (starred_name p d.stars d.name (behind us)) us
 
-local_spelled : {b : Base} {n : ℕ} {p : Pos} {d : LocalDeclarator} → IsLocal b n p d → Local b n p d
+local_spelled : {b : Base} {n : ℕ} {p : Pos} {d : LocalDeclarator} → IsLocal any_words b n p d → Local b n p d
 local_spelled {p = p} (tree.a_local {k} {x} {r} room star is_name value) =
     let v = initializer_spelled r value in
     record {
@@ -62,7 +63,7 @@ local_spelled {p = p} (tree.a_local {k} {x} {r} room star is_name value) =
       spells = λ us. statement.a_declarator (stars_spelled p k (named x (v.tokens us))) star (the_name x (v.tokens us) is_name) (v.spells us);
     }
 
-more_locals : {b : Base} {n m : ℕ} {ds : List LocalDeclarator} → MoreLocals b n ds m → Spelled (Spells_as (More_declarators b) n ds m)
+more_locals : {b : Base} {n m : ℕ} {ds : List LocalDeclarator} → MoreLocals any_words b n ds m → Spelled (Spells_as (More_declarators b) n ds m)
 more_locals tree.no_local = spell _ (λ us. statement.last_declarator)
 more_locals (tree.one_local {p = p} {d = d} l at more) =
     let x = local_spelled l in
@@ -70,7 +71,7 @@ more_locals (tree.one_local {p = p} {d = d} l at more) =
     spell _ (λ us. statement.next_declarator (the_mark mark.Comma _)
     (begins (starred_name p d.stars d.name (x.behind (y.tokens us))) (starred_name_place p d.stars d.name (x.behind (y.tokens us)) at) x.room) (x.spells (y.tokens us)) (y.spells us))
 
-more_threads : {n m : ℕ} {ds : List ThreadLocal} → MoreThreads n ds m → Spelled (Spells_as More_threads n ds m)
+more_threads : {n m : ℕ} {ds : List ThreadLocal} → MoreThreads any_words n ds m → Spelled (Spells_as More_threads n ds m)
 more_threads tree.no_thread = spell _ (λ us. statement.last_thread)
 more_threads (tree.one_thread {x = x} room is_name more) =
     let y = more_threads more in
@@ -82,7 +83,7 @@ record DeclaredAt (n : ℕ) (l : Locals) (m : ℕ) : Type 0 where
   at : Pos
   spelled : SpelledAt at (Spells_as (Declared at) n l m)
 
-locals_spelled : {n m : ℕ} {l : Locals} → IsLocals n l m → DeclaredAt n l m
+locals_spelled : {n m : ℕ} {l : Locals} → IsLocals any_words n l m → DeclaredAt n l m
 locals_spelled (tree.threads {p = p} {x = x} room is_name more) =
     let y = more_threads more in
     record {
@@ -118,10 +119,10 @@ conditions n w x us room =
       close = the_mark mark.CloseParen us;
     }
 
-item_spelled : {n : ℕ} {p : Pos} {a : Simple} → IsSimpleItem n p a → SpelledAt p (phrase.Spells all_kept A_simple a)
+item_spelled : {n : ℕ} {p : Pos} {a : Simple} → IsSimpleItem any_words n p a → SpelledAt p (phrase.Spells all_kept A_simple a)
 item_spelled {p = p} {a = a} h = simple_spelled p a h.is_simple h.begins
 
-first_spelled : {n m : ℕ} {f : Option ForFirst} → IsFirst n f m → Spelled (Spells_as For_first n f m)
+first_spelled : {n m : ℕ} {f : Option ForFirst} → IsFirst any_words n f m → Spelled (Spells_as For_first n f m)
 first_spelled tree.nothing_first = spell _ (λ us. statement.nothing_first (the_mark mark.Semicolon us))
 first_spelled (tree.simple_first {p = p} h) =
     let x = item_spelled h in
@@ -132,7 +133,7 @@ first_spelled (tree.local_first {b = b} {p = p} {d = d} is_base l) =
     spell _ (λ us. statement.local_first (begins (token p w.first ∷ w.behind (starred_name p d.stars d.name (x.behind (marked mark.Semicolon us)))) refl x.room)
     (w.spells (starred_name p d.stars d.name (x.behind (marked mark.Semicolon us)))) (x.spells (marked mark.Semicolon us)) (the_mark mark.Semicolon us))
 
-condition_spelled : {n : ℕ} {c : Head (Option Exp)} → RoomForItem n → IsCondition n c → Spelled (Spells_as For_condition n c (suc n))
+condition_spelled : {n : ℕ} {c : Head (Option Exp)} → RoomForItem n → IsCondition any_words n c → Spelled (Spells_as For_condition n c (suc n))
 condition_spelled {n = n} room (tree.no_condition {p}) =
     spell _ (λ us. statement.no_condition (begins (token p (word.Mark mark.Semicolon) ∷ us) refl room) (p, tt, of_mark mark.Semicolon p us))
 condition_spelled {n = n} room (tree.a_condition {c} h) =
@@ -140,7 +141,7 @@ condition_spelled {n = n} room (tree.a_condition {c} h) =
     spell _ (λ us. statement.a_condition (allowed_up_to counted.Items (suc n) (opened start (x.inside (marked mark.Semicolon us))) room) (x.expression start (marked mark.Semicolon us))
     (the_mark mark.Semicolon us))
 
-step_spelled : {n m : ℕ} {g : Option (ItemAt × Simple)} → IsStep n g m → Spelled (Spells_as For_step n g m)
+step_spelled : {n m : ℕ} {g : Option (ItemAt × Simple)} → IsStep any_words n g m → Spelled (Spells_as For_step n g m)
 step_spelled tree.no_step = spell _ (λ us. statement.no_step (the_mark mark.CloseParen us))
 step_spelled (tree.a_step {p = p} h) =
     let x = item_spelled h in
@@ -162,7 +163,7 @@ SpelledPart Statements in_loop d n a m = Spelled (Spells_as (statement.Statement
 deep : (d : ℕ) (ts : List Token) → d ≤ most counted.Nesting → statement.is_deep all_kept d ts
 deep d ts h = allowed_up_to counted.Nesting d ts h
 
-statement_spelled : {p : Part} {in_loop : Bool} {d n : ℕ} {a : Tree p} {m : ℕ} → IsTree p in_loop d n a m → SpelledPart p in_loop d n a m
+statement_spelled : {p : Part} {in_loop : Bool} {d n : ℕ} {a : Tree p} {m : ℕ} → IsTree any_words p in_loop d n a m → SpelledPart p in_loop d n a m
 statement_spelled tree.no_statement = spell _ (λ us. statement.no_statement)
 statement_spelled (tree.a_statement s r) =
     let x = statement_spelled s in
@@ -262,5 +263,5 @@ statement_spelled {d = d} (tree.a_for f room c g s) = λ h.
           (w.spells _) (x.spells _) (y.spells (z.tokens us)) (z.spells us));
     }
 
-pub statements_spelled : {in_loop : Bool} {d n m : ℕ} {more : List Stmt} → IsTree Statements in_loop d n more m → Spelled (Spells_as (statement.Statements in_loop d) n more m)
+pub statements_spelled : {in_loop : Bool} {d n m : ℕ} {more : List Stmt} → IsTree any_words Statements in_loop d n more m → Spelled (Spells_as (statement.Statements in_loop d) n more m)
 statements_spelled s = statement_spelled s

@@ -3,12 +3,13 @@ use Rattle.std.proofs.Common.{◌≡◌, inl, inr, ℕ, ◌+◌, true, List, [],
 use Rattle.std.proofs.lemmas.List.{append_cancel_right}
 use Rattle.ca_tree.specs.declared.token.Token.{Token}
 use Rattle.ca_tree.specs.declared.tree.Program.{Program}
+use Rattle.ca_tree.specs.Counts.{Totals, nothing_yet}
 use Rattle.ca_grammar.specs.declared.faults.Count.{Count}
 use Rattle.ca_grammar.specs.declared.faults.ReadFault.{ReadFault}
 use Rattle.ca_grammar.specs.declared.operand.Operand.{Operand}
 use Rattle.ca_grammar.specs.Words.{Class, The_end}
 use Rattle.ca_grammar.specs.Limits.{Rule, Depth, Limits, no_rules, only, the_limits, within, Allowed, kept, Firm}
-use Rattle.ca_grammar.specs.Declarations.{Totals, IsProgram}
+use Rattle.ca_grammar.specs.Declarations.{IsProgram}
 use Rattle.ca_grammar.specs.Declarations as declaration
 use Rattle.ca_grammar.specs.Texts.{SpellsWhole, IsExpression, EndsOnce}
 use Rattle.ca_grammar.specs.Faults.{first, latest, is_name, kind_at, kind_of, place_of, Begins, GoesOn, IsFault}
@@ -39,7 +40,7 @@ abbrev pub ReadsWhole : Type 0
 ReadsWhole = (limits : Limits) (k : ℕ) (a : Operand) (ts vs : List Token) → SpellsWhole (kept limits k) a ts vs → Through limits k Whole (plan Whole) a ts vs
 
 abbrev pub ReadsProgram : Type 0
-ReadsProgram = (limits : Limits) (k : ℕ) (a : Program) (m : Totals) (ts us : List Token) → declaration.Spells (kept limits k) declaration.A_program declaration.nothing_yet a ts m us
+ReadsProgram = (limits : Limits) (k : ℕ) (a : Program) (m : Totals) (ts us : List Token) → declaration.Spells (kept limits k) declaration.A_program nothing_yet a ts m us
     → Through limits k A_program (plan A_program) a ts us
 
 pub expressions : ReadsWhole → IsWholeText Whole IsExpression

@@ -11,7 +11,7 @@ use Rattle.ca_tree.specs.declared.tree.Exp.TheVariants as e
 use Rattle.ca_tree.specs.Lexed.{token}
 use Rattle.ca_tree.specs.Places.{start}
 use Rattle.ca_grammar.specs.declared.faults.Count.{Count}
-use Rattle.ca_grammar.specs.declared.faults.Counted.TheVariants.{NameBytes}
+use Rattle.ca_tree.specs.declared.counted.Counted.TheVariants.{NameBytes}
 use Rattle.ca_grammar.specs.declared.operand.Operand.{Operand}
 use Rattle.ca_grammar.specs.Words.{Class, The_mark, A_number, A_name, A_unary_operator, Of, Takes, Lacks, place, unary_operator, null_word, open_paren}
 use Rattle.ca_grammar.specs.Limits.{Limit, Depth, Limits, within, Allowed, kept}

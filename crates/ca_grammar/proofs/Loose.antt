@@ -12,7 +12,9 @@ use Rattle.ca_tree.specs.declared.tree.ResultType.{ResultType}
 use Rattle.ca_tree.specs.declared.tree.Parameter.{Parameter}
 use Rattle.ca_tree.specs.declared.tree.Top.{Top}
 use Rattle.ca_grammar.specs.declared.faults.Count.{Count}
-use Rattle.ca_grammar.specs.declared.faults.Counted.TheVariants.{Items}
+use Rattle.ca_tree.specs.declared.counted.Counted.TheVariants.{Items}
+use Rattle.ca_tree.specs.Counts.{Totals, nothing_yet}
+use Rattle.ca_tree.specs.PhraseTrees as tree
 use Rattle.ca_grammar.specs.declared.operand.Operand.{Operand}
 use Rattle.ca_grammar.specs.Words.{Class, The_word, A_name, Of, Takes, Skips, Lacks, place, open_paren, open_brace, close_brace, semicolon}
 use Rattle.ca_grammar.specs.Limits.{Rule, Limit, Depth, Star, Limits, Firm, within, Allowed, kept}
@@ -21,7 +23,7 @@ use Rattle.ca_grammar.specs.Expressions as part
 use Rattle.ca_grammar.specs.Phrases as phrase
 use Rattle.ca_grammar.specs.Statements as statement
 use Rattle.ca_grammar.specs.Declarations as declaration
-use Rattle.ca_grammar.specs.Declarations.{Totals, stars_missing}
+use Rattle.ca_grammar.specs.Declarations.{stars_missing}
 use Rattle.ca_grammar.specs.Texts.{SpellsWhole}
 use Rattle.ca_grammar.specs.Goals.{Goal, Primary, Postfixes, Postfix, Level, Operators, Behind, From, Unary, Nameless_unary, Expression, Whole, Stars, Starred_name, Base_at, Type_name, Arguments_behind, More_arguments, Print_arguments, Behind_malloc, A_right, Initializer, Behind_target, Simple_at, First_declarator, More_declarators, More_threads, Threads_at, Variables_at, Local_at, Statements, A_statement, Braceless, A_body, Condition, Else_part, For_first, For_condition, For_step, Field_declarators, A_field, More_fields, Mutexes, Threads, A_constant, Behind_global, More_globals, Next_global, Behind_type, More_parameters, Next_parameter, Parameters, Body_of, Function_of, Behind_paren, Behind_base, Behind_void, Qualified, Behind_tag, A_top, Tops, A_program, Tree, Starred}
 use Rattle.ca_grammar.specs.Plan.{Plan, give, take, want, call}
@@ -71,7 +73,7 @@ pub record SpellsStarred (limits : Limits) (k : ℕ) (cs at_name : List Count) (
   pub p : Pos
   pub t : List ℕ
   pub stars : phrase.Spells (kept limits k) (phrase.Stars 0) x.stars ts us
-  pub has_star : phrase.has_star b x.stars ≡ true
+  pub has_star : tree.has_star b x.stars ≡ true
   pub names : phrase.Names (kept limits k) us p t vs
   pub is_name : x.name ≡ name p t
   pub at : place ts ≡ Some x.pos
@@ -215,7 +217,7 @@ Spelled limits k (Behind_tag x t) m ts us =
     → declaration.Spells (kept limits k) declaration.A_top t m.what pre m.totals us
 Spelled limits k (A_top t) m ts us = MaybeTop (kept limits k) t m.what ts m.totals us
 Spelled limits k (Tops t) m ts us = declaration.Spells (kept limits k) declaration.Tops t m.what ts m.totals us
-Spelled limits k A_program a ts us = (m : Totals) × declaration.Spells (kept limits k) declaration.A_program declaration.nothing_yet a ts m us
+Spelled limits k A_program a ts us = (m : Totals) × declaration.Spells (kept limits k) declaration.A_program nothing_yet a ts m us
 
 -- tokens begin with what a plan may read, whatever it looks at
 pub data Loose (limits : Limits) (k : ℕ) : (g : Goal) → Plan g → Tree g → List Token → List Token → Type 0 where

@@ -4,7 +4,7 @@ use Rattle.std.proofs.lemmas.Bool.{lt-ltb, ltb-true, cases_order}
 use Rattle.std.proofs.lemmas.List.{length-append}
 use Rattle.ca_tree.specs.declared.text.Pos.{Pos}
 use Rattle.ca_tree.specs.declared.token.Token.{Token}
-use Rattle.ca_grammar.specs.declared.faults.Counted.TheVariants as counted
+use Rattle.ca_tree.specs.declared.counted.Counted.TheVariants as counted
 use Rattle.ca_grammar.specs.declared.faults.ReadKind.{ReadKind}
 use Rattle.ca_grammar.specs.declared.faults.ReadFault.{ReadFault}
 use Rattle.ca_grammar.specs.Limits.{Rule, Limit, Depth, Star, Limits, the_limits, no_rules, only, order, Allowed, kept}

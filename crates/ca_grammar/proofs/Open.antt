@@ -8,8 +8,9 @@ use Rattle.ca_tree.specs.declared.token.Mark.TheVariants as mark
 use Rattle.ca_tree.specs.declared.tree.UnaryOp.TheVariants.{Negate}
 use Rattle.ca_tree.specs.declared.tree.UpdateOp.TheVariants as update
 use Rattle.ca_tree.specs.Lexed.{token}
+use Rattle.ca_tree.specs.Names.{is_reserved, is_left_out, is_library_word}
 use Rattle.ca_grammar.specs.declared.faults.Count.{Count}
-use Rattle.ca_grammar.specs.Words.{Class, The_mark, The_word, A_number, A_string, A_name, A_name_of_the_source, A_unary_operator, A_binary_operator, An_update_operator, A_step_operator, The_end, Of, Is, is_reserved, is_left_out, is_library_word}
+use Rattle.ca_grammar.specs.Words.{Class, The_mark, The_word, A_number, A_string, A_name, A_name_of_the_source, A_unary_operator, A_binary_operator, An_update_operator, A_step_operator, The_end, Of, Is}
 use Rattle.ca_grammar.specs.Limits.{Rule, Limits, Firm}
 use Rattle.ca_grammar.specs.Goals.{Goal, Tree}
 use Rattle.ca_grammar.specs.Plan.{Plan, give, take, want, call}

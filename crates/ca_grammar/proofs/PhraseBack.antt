@@ -16,9 +16,10 @@ use Rattle.ca_tree.specs.declared.tree.Malloc.{Malloc}
 use Rattle.ca_tree.specs.declared.tree.Right.{Right}
 use Rattle.ca_tree.specs.declared.tree.Simple.{Simple}
 use Rattle.ca_grammar.specs.declared.faults.Count.{Count}
-use Rattle.ca_grammar.specs.declared.faults.Counted.TheVariants.{NameBytes}
+use Rattle.ca_tree.specs.declared.counted.Counted.TheVariants.{NameBytes}
+use Rattle.ca_tree.specs.Names.{is_library_word}
 use Rattle.ca_grammar.specs.declared.operand.Operand.{Operand}
-use Rattle.ca_grammar.specs.Words.{Class, A_name, A_name_of_the_source, Of, Takes, Lacks, is_library_word, unary_operator, is_library_call, begins_library_call}
+use Rattle.ca_grammar.specs.Words.{Class, A_name, A_name_of_the_source, Of, Takes, Lacks, unary_operator, is_library_call, begins_library_call}
 use Rattle.ca_grammar.specs.Limits.{Limit, Depth, Limits, within, Allowed, kept}
 use Rattle.ca_grammar.specs.Expressions.{Spells}
 use Rattle.ca_grammar.specs.Expressions as g

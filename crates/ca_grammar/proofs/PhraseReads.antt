@@ -21,9 +21,11 @@ use Rattle.ca_tree.specs.declared.tree.Simple.{Simple}
 use Rattle.ca_tree.specs.declared.tree.Simple.TheVariants as simple
 use Rattle.ca_tree.specs.Lexed.{token}
 use Rattle.ca_grammar.specs.declared.faults.Count.{Count}
-use Rattle.ca_grammar.specs.declared.faults.Counted.TheVariants.{Arguments, StringBytes}
+use Rattle.ca_tree.specs.declared.counted.Counted.TheVariants.{Arguments, StringBytes}
+use Rattle.ca_tree.specs.Names.{is_reserved, is_one_of, kept_keywords, is_left_out, reserved_names, library_words, is_library_word}
+use Rattle.ca_tree.specs.PhraseTrees.{has_star}
 use Rattle.ca_grammar.specs.declared.operand.Operand.{Operand}
-use Rattle.ca_grammar.specs.Words.{Class, The_mark, The_word, A_name, A_name_of_the_source, A_unary_operator, A_binary_operator, An_update_operator, A_step_operator, Of, Is, Takes, Lacks, Skips, place, unary_operator, binary_operator, update_operator, step_operator, is_reserved, is_one_of, kept_keywords, is_left_out, reserved_names, library_words, is_library_word, is_library_call, begins_library_call, null_word, open_paren, close_paren, comma, star, assign}
+use Rattle.ca_grammar.specs.Words.{Class, The_mark, The_word, A_name, A_name_of_the_source, A_unary_operator, A_binary_operator, An_update_operator, A_step_operator, Of, Is, Takes, Lacks, Skips, place, unary_operator, binary_operator, update_operator, step_operator, is_library_call, begins_library_call, null_word, open_paren, close_paren, comma, star, assign}
 use Rattle.ca_grammar.specs.Limits.{Limit, Depth, Limits, within, Allowed, kept}
 use Rattle.ca_grammar.specs.Expressions.{Spells}
 use Rattle.ca_grammar.specs.Expressions as g
@@ -208,7 +210,7 @@ reads_stars limits k j phrase.no_star n = t_passes n t_gives
 reads_stars limits k j {ts = ts} (phrase.a_star t s) n = t_takes t.2 (none limits k ts) tt (t_calls (reads_stars limits k (suc j) s n) t_gives)
 
 -- with the stars and the name apart
-starred : (limits : Limits) (k : ℕ) (cs more : List Count) (b : Base) {p q : Pos} {m : ℕ} {t : List ℕ} {ts us vs : List Token} → phrase.Spells (kept limits k) (phrase.Stars 0) m ts us → phrase.has_star b m ≡ true
+starred : (limits : Limits) (k : ℕ) (cs more : List Count) (b : Base) {p q : Pos} {m : ℕ} {t : List ℕ} {ts us vs : List Token} → phrase.Spells (kept limits k) (phrase.Stars 0) m ts us → has_star b m ≡ true
     → phrase.Names (kept limits k) us q t vs → place ts ≡ Some p → Counts limits k cs ts → Counts limits k more us
     → Through limits k (Starred_name cs more b) (plan (Starred_name cs more b)) (record { pos = p; stars = m; name = g.name q t }) ts vs
 starred limits k cs more base.Int {q = q} {t = t} {ts = ts} {vs = vs} phrase.no_star i n e c d =

@@ -15,9 +15,11 @@ use Rattle.ca_tree.specs.declared.tree.Simple.TheVariants as simple
 use Rattle.ca_tree.specs.Lexed.{token}
 use Rattle.ca_tree.specs.Places.{start}
 use Rattle.ca_grammar.specs.declared.faults.Count.{Count}
-use Rattle.ca_grammar.specs.declared.faults.Counted.{Counted}
+use Rattle.ca_tree.specs.declared.counted.Counted.{Counted}
+use Rattle.ca_tree.specs.Names.{is_reserved, is_left_out}
+use Rattle.ca_tree.specs.PhraseTrees.{has_star}
 use Rattle.ca_grammar.specs.declared.operand.Operand.{Operand}
-use Rattle.ca_grammar.specs.Words.{The_mark, The_word, A_name, A_step_operator, Takes, is_reserved, is_left_out}
+use Rattle.ca_grammar.specs.Words.{The_mark, The_word, A_name, A_step_operator, Takes}
 use Rattle.ca_grammar.specs.Limits.{Limit, Limits, within, Allowed, kept}
 use Rattle.ca_grammar.specs.Expressions as g
 use Rattle.ca_grammar.specs.Phrases as phrase
@@ -56,7 +58,7 @@ at_name us = record { first = word.Name some_name; parts = refl; fits = (refl, s
 pub sample_stars : (limits : Limits) (j : ℕ) → Sample limits (Stars j)
 sample_stars limits j = record { tree = j; more = []; spells = λ k vs h r. phrase.no_star }
 
-pub one_star : (b : Base) → phrase.has_star b 1 ≡ true
+pub one_star : (b : Base) → has_star b 1 ≡ true
 one_star base.Int = refl
 one_star (base.Struct n) = refl
 

@@ -2,6 +2,7 @@
 use Rattle.std.proofs.Common.{ℕ, List}
 use Rattle.ca_tree.specs.declared.text.Pos.{Pos}
 use Rattle.ca_tree.specs.declared.token.Token.{Token}
+use Rattle.ca_tree.specs.Counts.{Totals}
 use Rattle.ca_grammar.specs.declared.operand.Operand.{Operand}
 use Rattle.ca_grammar.specs.Limits.{Allowed}
 use Rattle.ca_grammar.specs.Expressions.{Part, Spells}
@@ -10,7 +11,7 @@ use Rattle.ca_grammar.specs.Phrases.{Names, Addresses, Targets}
 use Rattle.ca_grammar.specs.Phrases as phrase
 use Rattle.ca_grammar.specs.Statements.{Begins, Conditions}
 use Rattle.ca_grammar.specs.Statements as statement
-use Rattle.ca_grammar.specs.Declarations.{Totals, IsProgram}
+use Rattle.ca_grammar.specs.Declarations.{IsProgram}
 use Rattle.ca_grammar.specs.Declarations as declaration
 use Rattle.ca_grammar.specs.Texts.{AnExpression, AProgram}
 use Rattle.ca_grammar.specs.Laws.{AllowsMore, Spreads}

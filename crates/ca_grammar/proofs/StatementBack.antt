@@ -17,15 +17,17 @@ use Rattle.ca_tree.specs.declared.tree.Right.{Right}
 use Rattle.ca_tree.specs.declared.tree.Stmt.{Stmt}
 use Rattle.ca_tree.specs.Lexed.{token}
 use Rattle.ca_grammar.specs.declared.faults.Count.{Count}
-use Rattle.ca_grammar.specs.declared.faults.Counted.TheVariants.{Items, Nesting}
+use Rattle.ca_tree.specs.declared.counted.Counted.TheVariants.{Items, Nesting}
+use Rattle.ca_tree.specs.Names.{is_reserved, is_left_out, is_one_of}
+use Rattle.ca_tree.specs.StatementTrees.{Branch, item}
 use Rattle.ca_grammar.specs.declared.operand.Operand.{Operand}
-use Rattle.ca_grammar.specs.Words.{Class, The_mark, The_word, A_name, Of, Takes, Skips, Lacks, place, unary_operator, step_operator, is_reserved, is_left_out, is_one_of, open_brace, close_brace}
+use Rattle.ca_grammar.specs.Words.{Class, The_mark, The_word, A_name, Of, Takes, Skips, Lacks, place, unary_operator, step_operator, open_brace, close_brace}
 use Rattle.ca_grammar.specs.Limits.{Limit, Limits, Allowed, kept}
 use Rattle.ca_grammar.specs.Expressions as exp
 use Rattle.ca_grammar.specs.Phrases as phrase
 use Rattle.ca_grammar.specs.Phrases.{Names}
 use Rattle.ca_grammar.specs.Statements as statement
-use Rattle.ca_grammar.specs.Statements.{Begins, Branch, is_deep}
+use Rattle.ca_grammar.specs.Statements.{Begins, is_deep}
 use Rattle.ca_grammar.specs.Goals.{Goal, Tree, Starred, First_declarator, More_declarators, More_threads, Threads_at, Variables_at, Local_at, Statements, A_statement, Braceless, A_body, Condition, Else_part, For_first, For_condition, For_step}
 use Rattle.ca_grammar.specs.Plan.{and_name}
 use Rattle.ca_grammar.specs.StatementPlans.{an_item, nested, nested_item, declarator, at_close, if_closed, simply_said, in_loops}
@@ -231,7 +233,7 @@ names limits k cs {t = t} {ts = ts} n h = record { takes = n; short = count_of_n
 declares : {limits : Limits} {k : ℕ} {cs at_name : List Count} {b : Base} {x : Starred} {r : Option Right} {ts us vs : List Token} (p : Pos) (n : ℕ)
     → SpellsStarred limits k cs at_name b x ts us → phrase.Spells (kept limits k) phrase.An_initializer r us vs → statement.Spells (kept limits k) (statement.A_declarator b p) n (declarator x p n r) ts (suc n) vs
 declares {limits} {k} {b = b} {x = x} {r = r} {ts = ts} {vs = vs} p n s i =
-    subst (λ y. statement.Spells (kept limits k) (statement.A_declarator b p) n (record { item = statement.item (suc n) p; stars = x.stars; name = y; value = r }) ts (suc n) vs) (sym s.is_name)
+    subst (λ y. statement.Spells (kept limits k) (statement.A_declarator b p) n (record { item = item (suc n) p; stars = x.stars; name = y; value = r }) ts (suc n) vs) (sym s.is_name)
     (statement.a_declarator s.stars s.has_star s.names i)
 
 pub back_first_declarator : (limits : Limits) (k : ℕ) (b : Base) (p : Pos) (n : ℕ) (a : Tree (First_declarator b p n)) (ts us : List Token) → Roomy limits (First_declarator b p n)

@@ -18,16 +18,18 @@ use Rattle.ca_tree.specs.declared.tree.Stmt.TheVariants as s
 use Rattle.ca_tree.specs.declared.tree.ThreadLocal.{ThreadLocal}
 use Rattle.ca_tree.specs.Lexed.{token}
 use Rattle.ca_grammar.specs.declared.faults.Count.{Count}
-use Rattle.ca_grammar.specs.declared.faults.Counted.TheVariants.{Items, Nesting}
+use Rattle.ca_tree.specs.declared.counted.Counted.TheVariants.{Items, Nesting}
+use Rattle.ca_tree.specs.Names.{is_reserved, is_left_out}
+use Rattle.ca_tree.specs.StatementTrees.{Branch, Head, closed, item}
 use Rattle.ca_grammar.specs.declared.operand.Operand.{Operand}
-use Rattle.ca_grammar.specs.Words.{Class, The_word, A_name, Of, Takes, Skips, Lacks, place, is_reserved, is_left_out, open_brace, close_brace, comma, semicolon, assign}
+use Rattle.ca_grammar.specs.Words.{Class, The_word, A_name, Of, Takes, Skips, Lacks, place, open_brace, close_brace, comma, semicolon, assign}
 use Rattle.ca_grammar.specs.Limits.{Limit, Limits, Allowed, kept}
 use Rattle.ca_grammar.specs.Expressions as exp
 use Rattle.ca_grammar.specs.Expressions.{name}
 use Rattle.ca_grammar.specs.Phrases as phrase
 use Rattle.ca_grammar.specs.Phrases.{Names}
 use Rattle.ca_grammar.specs.Statements as statement
-use Rattle.ca_grammar.specs.Statements.{Branch, Conditions, Head, closed, is_deep, item}
+use Rattle.ca_grammar.specs.Statements.{Conditions, is_deep}
 use Rattle.ca_grammar.specs.Goals.{Goal, Tree, Starred, Numbered, Expression, Starred_name, Initializer, Simple_at, First_declarator, More_declarators, More_threads, Threads_at, Variables_at, Local_at, Statements, A_statement, Braceless, A_body, Condition, Else_part, For_first, For_condition, For_step}
 use Rattle.ca_grammar.specs.Plan.{Plan, give, call, and_name, bytes_of_name}
 use Rattle.ca_grammar.specs.PhrasePlans.{must, maybe}

@@ -16,17 +16,19 @@ use Rattle.ca_tree.specs.declared.tree.Locals.TheVariants as locals
 use Rattle.ca_tree.specs.declared.tree.Stmt.TheVariants as s
 use Rattle.ca_tree.specs.Lexed.{token}
 use Rattle.ca_tree.specs.Places.{start}
-use Rattle.ca_grammar.specs.declared.faults.Counted.{Counted}
-use Rattle.ca_grammar.specs.declared.faults.Counted.TheVariants.{Items, Nesting, NameBytes}
+use Rattle.ca_tree.specs.declared.counted.Counted.{Counted}
+use Rattle.ca_tree.specs.declared.counted.Counted.TheVariants.{Items, Nesting, NameBytes}
+use Rattle.ca_tree.specs.Names.{is_reserved, is_left_out}
+use Rattle.ca_tree.specs.PhraseTrees.{has_star}
+use Rattle.ca_tree.specs.StatementTrees.{Branch, closed, item}
 use Rattle.ca_grammar.specs.declared.operand.Operand.{Operand}
-use Rattle.ca_grammar.specs.Words.{The_mark, A_name, Takes, Skips, Lacks, is_reserved, is_left_out, open_brace}
+use Rattle.ca_grammar.specs.Words.{The_mark, A_name, Takes, Skips, Lacks, open_brace}
 use Rattle.ca_grammar.specs.Limits.{Limit, Limits, Allowed, kept}
 use Rattle.ca_grammar.specs.Expressions as exp
 use Rattle.ca_grammar.specs.Expressions.{name}
 use Rattle.ca_grammar.specs.Phrases as phrase
-use Rattle.ca_grammar.specs.Phrases.{Names, has_star}
+use Rattle.ca_grammar.specs.Phrases.{Names}
 use Rattle.ca_grammar.specs.Statements as statement
-use Rattle.ca_grammar.specs.Statements.{Branch, closed, item}
 use Rattle.ca_grammar.specs.Goals.{First_declarator, More_declarators, More_threads, Threads_at, Variables_at, Local_at, Statements, A_statement, Braceless, A_body, Condition, Else_part, For_first, For_condition, For_step}
 use Rattle.ca_grammar.specs.Plan.{counted}
 use Rattle.ca_grammar.specs.StatementPlans.{numbered, without_else}

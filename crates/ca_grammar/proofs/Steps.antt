@@ -13,12 +13,12 @@ use Rattle.ca_tree.specs.declared.tree.Library.{Library}
 use Rattle.ca_tree.specs.declared.tree.Library.TheVariants as library
 use Rattle.ca_tree.specs.declared.tree.Top.{Top}
 use Rattle.ca_grammar.specs.declared.faults.Count.{Count}
-use Rattle.ca_grammar.specs.declared.faults.Counted.TheVariants.{Items, Nesting, Globals, Functions, Parameters as Parameter_count, Mutexes as Mutex_count, Structs, Fields, Arguments, StringBytes}
+use Rattle.ca_tree.specs.declared.counted.Counted.TheVariants.{Items, Nesting, Globals, Functions, Parameters as Parameter_count, Mutexes as Mutex_count, Structs, Fields, Arguments, StringBytes}
+use Rattle.ca_tree.specs.Counts.{Totals}
+use Rattle.ca_tree.specs.StatementTrees.{Branch}
 use Rattle.ca_grammar.specs.Words.{Class, A_string, A_name, A_name_of_the_source, A_binary_operator, The_end, Of}
 use Rattle.ca_grammar.specs.Limits.{Limit, order, Firm, within, the_limits}
 use Rattle.ca_grammar.specs.Expressions.{name}
-use Rattle.ca_grammar.specs.Statements.{Branch}
-use Rattle.ca_grammar.specs.Declarations.{Totals}
 use Rattle.ca_grammar.specs.Plan.{Plan, give, take, want, call, deep, no_counts, these, and_name, bytes_of_name, counted}
 use Rattle.ca_grammar.specs.ExpressionPlans.{one_more}
 use Rattle.ca_grammar.specs.PhrasePlans.{behind_star, behind_sizeof, behind_cast, behind_open, behind_lock, behind_one, behind_join, behind_create, behind_print, on_target_or_call}

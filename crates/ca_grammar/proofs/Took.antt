@@ -5,7 +5,7 @@ use Rattle.ca_tree.specs.declared.text.Pos.{Pos}
 use Rattle.ca_tree.specs.declared.token.Token.{Token}
 use Rattle.ca_tree.specs.Lexed.{token}
 use Rattle.ca_grammar.specs.declared.faults.Count.{Count}
-use Rattle.ca_grammar.specs.declared.faults.Counted.{Counted}
+use Rattle.ca_tree.specs.declared.counted.Counted.{Counted}
 use Rattle.ca_grammar.specs.Words.{Class, Of, Takes}
 use Rattle.ca_grammar.specs.Limits.{Rule, Limit, Limits, within, kept, Firm}
 use Rattle.ca_grammar.specs.Goals.{Goal, Tree}

@@ -17,12 +17,13 @@ use Rattle.ca_tree.specs.declared.tree.Parameter.{Parameter}
 use Rattle.ca_tree.specs.declared.tree.Top.{Top}
 use Rattle.ca_tree.specs.declared.tree.Top.TheVariants as top
 use Rattle.ca_grammar.specs.declared.faults.Count.{Count}
-use Rattle.ca_grammar.specs.declared.faults.Counted.TheVariants.{Functions, Globals, Mutexes as Mutex_count, Structs, Fields, Parameters as Parameter_count}
+use Rattle.ca_tree.specs.declared.counted.Counted.TheVariants.{Functions, Globals, Mutexes as Mutex_count, Structs, Fields, Parameters as Parameter_count}
+use Rattle.ca_tree.specs.Counts.{Totals, one_more_global, one_more_mutex, one_more_struct, one_more_function, nothing_yet}
+use Rattle.ca_tree.specs.StatementTrees.{item}
 use Rattle.ca_grammar.specs.Words.{The_mark, The_word, A_number, A_name, The_end, null_word, open_paren, close_paren, open_brace, close_brace, comma, semicolon, star, assign}
 use Rattle.ca_grammar.specs.Limits.{Star, Firm}
 use Rattle.ca_grammar.specs.Expressions.{name}
-use Rattle.ca_grammar.specs.Statements.{item}
-use Rattle.ca_grammar.specs.Declarations.{Totals, one_more_global, one_more_mutex, one_more_struct, one_more_function, stars_missing, nothing_yet}
+use Rattle.ca_grammar.specs.Declarations.{stars_missing}
 use Rattle.ca_grammar.specs.Goals.{Goal, Totalled, Starred_name, Base_at, Stars, Statements, Field_declarators, A_field, More_fields, Mutexes, Threads, A_constant, Behind_global, More_globals, Next_global, Behind_type, More_parameters, Next_parameter, Parameters, Body_of, Function_of, Behind_paren, Behind_base, Behind_void, Qualified, Behind_tag, A_top, Tops, A_program}
 use Rattle.ca_grammar.specs.Plan.{Plan, give, take, want, call, last, no_counts, these, and_name, counted}
 use Rattle.ca_grammar.specs.PhrasePlans.{must, maybe}

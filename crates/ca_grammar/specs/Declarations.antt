@@ -27,35 +27,17 @@ use Rattle.ca_tree.specs.declared.tree.Function.{Function}
 use Rattle.ca_tree.specs.declared.tree.Top.{Top}
 use Rattle.ca_tree.specs.declared.tree.Top.TheVariants as top
 use Rattle.ca_tree.specs.declared.tree.Program.{Program}
-use Rattle.ca_grammar.specs.declared.faults.Counted.TheVariants.{Items, Functions, Globals, Mutexes, Structs, Fields, Parameters}
+use Rattle.ca_tree.specs.declared.counted.Counted.TheVariants.{Items, Functions, Globals, Mutexes, Structs, Fields, Parameters}
+use Rattle.ca_tree.specs.PhraseTrees.{has_star}
+use Rattle.ca_tree.specs.StatementTrees.{item}
+use Rattle.ca_tree.specs.Counts.{Totals, nothing_yet, one_more_global, one_more_mutex, one_more_struct, one_more_function}
 use Rattle.ca_grammar.specs.Words.{The_mark, The_word, A_number, The_end, Takes, Skips, null_word, open_paren, close_paren, open_brace, close_brace, comma, semicolon, star, assign}
 use Rattle.ca_grammar.specs.Limits.{Allowed, Limit, Star}
 use Rattle.ca_grammar.specs.Expressions.{name}
-use Rattle.ca_grammar.specs.Phrases.{Names, has_star, Stars, A_base}
+use Rattle.ca_grammar.specs.Phrases.{Names, Stars, A_base}
 use Rattle.ca_grammar.specs.Phrases as phrase
-use Rattle.ca_grammar.specs.Statements.{Statements, item}
+use Rattle.ca_grammar.specs.Statements.{Statements}
 use Rattle.ca_grammar.specs.Statements as statement
-
--- how many there are so far
-pub record Totals : Type 0 where
-  pub items : ℕ
-  pub functions : ℕ
-  pub globals : ℕ
-  pub mutexes : ℕ
-  pub structs : ℕ
-
-abbrev pub one_more_global : Totals → Totals
-one_more_global n = record { items = n.items; functions = n.functions; globals = suc n.globals; mutexes = n.mutexes; structs = n.structs }
-
-abbrev pub one_more_mutex : Totals → Totals
-one_more_mutex n = record { items = n.items; functions = n.functions; globals = n.globals; mutexes = suc n.mutexes; structs = n.structs }
-
-abbrev pub one_more_struct : Totals → Totals
-one_more_struct n = record { items = n.items; functions = n.functions; globals = n.globals; mutexes = n.mutexes; structs = suc n.structs }
-
--- a function with items up to m, its closing brace included
-abbrev pub one_more_function : Totals → ℕ → Totals
-one_more_function n m = record { items = m; functions = suc n.functions; globals = n.globals; mutexes = n.mutexes; structs = n.structs }
 
 -- what can be spelled
 pub data Part : Type 0 where
@@ -206,9 +188,6 @@ pub data Spells (allowed : Allowed) : (p : Part) → Totals → Tree p → List 
   no_top : {n : Totals} {us : List Token} → Spells allowed Tops n [] us n us
   some_top : {n k m : Totals} {a : Top} {more : List Top} {ts us vs : List Token} → Spells allowed A_top n a ts k us → Spells allowed Tops k more us m vs → Spells allowed Tops n (a ∷ more) ts m vs
   a_program : {n m : Totals} {all : List Top} {ts us vs : List Token} → Spells allowed Tops n all ts m us → Skips The_end us vs → Spells allowed A_program n (record { tops = all }) ts m vs
-
-abbrev pub nothing_yet : Totals
-nothing_yet = record { items = 0; functions = 0; globals = 0; mutexes = 0; structs = 0 }
 
 -- these tokens, the end last, are a program in which only what is allowed is counted
 abbrev pub IsProgram : Allowed → Program → List Token → Type 0

@@ -9,7 +9,7 @@ use Rattle.ca_tree.specs.declared.tree.UnaryOp.{UnaryOp}
 use Rattle.ca_tree.specs.declared.tree.BinaryOp.{BinaryOp}
 use Rattle.ca_tree.specs.declared.tree.Exp.{Exp}
 use Rattle.ca_tree.specs.declared.tree.Exp.TheVariants as e
-use Rattle.ca_grammar.specs.declared.faults.Counted.TheVariants.{NameBytes}
+use Rattle.ca_tree.specs.declared.counted.Counted.TheVariants.{NameBytes}
 use Rattle.ca_grammar.specs.declared.operand.Operand.{Operand}
 use Rattle.ca_grammar.specs.Words.{The_mark, A_number, A_name, A_unary_operator, A_binary_operator, Takes, null_word}
 use Rattle.ca_grammar.specs.Limits.{Allowed, Limit, Depth}

@@ -6,12 +6,12 @@ use Rattle.ca_tree.specs.declared.token.Mark.TheVariants as mark
 use Rattle.ca_tree.specs.declared.token.Word.{Word}
 use Rattle.ca_tree.specs.declared.token.Word.TheVariants as word
 use Rattle.ca_tree.specs.declared.token.Token.{Token}
-use Rattle.ca_grammar.specs.declared.faults.Counted.TheVariants as counted
+use Rattle.ca_tree.specs.declared.counted.Counted.TheVariants as counted
+use Rattle.ca_tree.specs.Names.{is_left_out, is_reserved}
 use Rattle.ca_grammar.specs.declared.faults.LeftOut.TheVariants as left_out
 use Rattle.ca_grammar.specs.declared.faults.ReadKind.{ReadKind}
 use Rattle.ca_grammar.specs.declared.faults.ReadKind.TheVariants.{Grammar, LeftOut, TooMany}
 use Rattle.ca_grammar.specs.declared.faults.ReadFault.{ReadFault}
-use Rattle.ca_grammar.specs.Words.{is_left_out, is_reserved}
 use Rattle.ca_grammar.specs.Limits.{Rule, Limit, Depth, Star, Limits, no_rules, only, order, the_limits, Allowed, kept}
 
 abbrev pub first : List Token → Option Token

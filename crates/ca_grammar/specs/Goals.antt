@@ -27,10 +27,10 @@ use Rattle.ca_tree.specs.declared.tree.Body.{Body}
 use Rattle.ca_tree.specs.declared.tree.Function.{Function}
 use Rattle.ca_tree.specs.declared.tree.Top.{Top}
 use Rattle.ca_tree.specs.declared.tree.Program.{Program}
+use Rattle.ca_tree.specs.Counts.{Totals}
+use Rattle.ca_tree.specs.StatementTrees.{Branch, Head}
 use Rattle.ca_grammar.specs.declared.faults.Count.{Count}
 use Rattle.ca_grammar.specs.declared.operand.Operand.{Operand}
-use Rattle.ca_grammar.specs.Statements.{Branch, Head}
-use Rattle.ca_grammar.specs.Declarations.{Totals}
 
 -- stars and a name, and where they begin
 pub record Starred : Type 0 where

@@ -5,10 +5,8 @@ pub mod Phrases
 pub mod Statements
 pub mod Declarations
 pub mod Texts
-pub mod Trees
 pub mod Faults
 pub mod Laws
-pub mod ProgramTrees
 pub mod Goals
 pub mod Plan
 pub mod ExpressionPlans

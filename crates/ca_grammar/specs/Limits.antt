@@ -1,8 +1,9 @@
 -- The limits of a program: how many things of each kind it has at most, and how deep and how long they are.
 use Rattle.std.specs.Prelude.{ℕ, Bool, true, ◌||◌, ◌==◌, List, length, Option, Some, None, nat_le, nat_lt, if◌then◌else◌}
 use Rattle.ca_tree.specs.declared.token.Token.{Token}
-use Rattle.ca_grammar.specs.declared.faults.Counted.{Counted}
-use Rattle.ca_grammar.specs.declared.faults.Counted.TheVariants as counted
+use Rattle.ca_tree.specs.declared.counted.Counted.{Counted}
+use Rattle.ca_tree.specs.declared.counted.Counted.TheVariants as counted
+use Rattle.ca_tree.specs.Counts.{most}
 
 -- what may be broken: a limit of what is counted at a token, the depth of an expression, or the rule that a struct as a
 -- result has a star
@@ -14,19 +15,6 @@ pub data Rule : Type 0 where
 -- the greatest number that is allowed, where there is one
 abbrev pub Limits : Type 0
 Limits = Rule → Option ℕ
-
-abbrev pub most : Counted → ℕ
-most counted.Items = 65536
-most counted.Functions = 256
-most counted.Globals = 1024
-most counted.Mutexes = 64
-most counted.Structs = 64
-most counted.Fields = 64
-most counted.Parameters = 16
-most counted.Arguments = 8
-most counted.Nesting = 64
-most counted.StringBytes = 256
-most counted.NameBytes = 63
 
 -- a program of the grammar keeps the rule of stars alone
 abbrev pub no_limits : Limits

@@ -12,7 +12,7 @@ use Rattle.ca_tree.specs.declared.tree.Library.{Library}
 use Rattle.ca_tree.specs.declared.tree.Library.TheVariants as library
 use Rattle.ca_tree.specs.declared.tree.Simple.TheVariants as simple
 use Rattle.ca_grammar.specs.declared.faults.Count.{Count}
-use Rattle.ca_grammar.specs.declared.faults.Counted.TheVariants.{Arguments, StringBytes}
+use Rattle.ca_tree.specs.declared.counted.Counted.TheVariants.{Arguments, StringBytes}
 use Rattle.ca_grammar.specs.declared.operand.Operand.{Operand}
 use Rattle.ca_grammar.specs.Words.{Class, The_mark, The_word, A_number, A_string, A_name, A_name_of_the_source, A_unary_operator, An_update_operator, A_step_operator, null_word, open_paren, close_paren, comma, star, assign}
 use Rattle.ca_grammar.specs.Expressions.{name, leaf, parenthesised, unary}

@@ -1,6 +1,6 @@
 -- What the tokens of types, calls, right sides and simple statements are. `Spells allowed p a ts us`: the tokens ts begin with a spelling of a as a p, in
 -- which only what is allowed is counted, and us follow.
-use Rattle.std.specs.Prelude.{◌≡◌, ℕ, suc, pos, Bool, true, false, nat_le, List, [], ◌∷◌, length, Option, Some, None, codes}
+use Rattle.std.specs.Prelude.{◌≡◌, ℕ, suc, pos, true, false, List, [], ◌∷◌, length, Option, Some, None, codes}
 use Rattle.ca_tree.specs.declared.text.Pos.{Pos}
 use Rattle.ca_tree.specs.declared.token.Mark.TheVariants as mark
 use Rattle.ca_tree.specs.declared.token.Token.{Token}
@@ -18,7 +18,7 @@ use Rattle.ca_tree.specs.declared.tree.Library.TheVariants as library
 use Rattle.ca_tree.specs.declared.tree.UpdateOp.{UpdateOp}
 use Rattle.ca_tree.specs.declared.tree.Simple.{Simple}
 use Rattle.ca_tree.specs.declared.tree.Simple.TheVariants as simple
-use Rattle.ca_grammar.specs.declared.faults.Counted.TheVariants.{Arguments, StringBytes, NameBytes}
+use Rattle.ca_tree.specs.declared.counted.Counted.TheVariants.{Arguments, StringBytes, NameBytes}
 use Rattle.ca_grammar.specs.declared.operand.Operand.{Operand}
 use Rattle.ca_grammar.specs.Words.{The_mark, The_word, A_string, A_name, A_name_of_the_source, An_update_operator, A_step_operator, Takes, Skips, begins_library_call, null_word, open_paren, close_paren, comma, star, assign}
 use Rattle.ca_grammar.specs.Limits.{Allowed, Limit}
@@ -62,11 +62,6 @@ Tree An_initializer = Option Right
 Tree A_library_call = Library
 Tree A_simple = Simple
 Tree An_optional_expression = Option Exp
-
--- a struct as a field, a parameter, a result or a local has a star
-abbrev pub has_star : Base → ℕ → Bool
-has_star base.Int k = true
-has_star (base.Struct n) k = nat_le 1 k
 
 -- the 1 that `++` and `--` add and take away
 abbrev pub one : Pos → Exp

@@ -2,8 +2,8 @@
 use Rattle.std.specs.Prelude.{ℕ, List, [], ◌∷◌, ◌++◌, length, Option, Some}
 use Rattle.ca_tree.specs.declared.text.Pos.{Pos}
 use Rattle.ca_grammar.specs.declared.faults.Count.{Count}
-use Rattle.ca_grammar.specs.declared.faults.Counted.{Counted}
-use Rattle.ca_grammar.specs.declared.faults.Counted.TheVariants.{NameBytes}
+use Rattle.ca_tree.specs.declared.counted.Counted.{Counted}
+use Rattle.ca_tree.specs.declared.counted.Counted.TheVariants.{NameBytes}
 use Rattle.ca_grammar.specs.Words.{Class, Of}
 use Rattle.ca_grammar.specs.Limits.{Depth, Firm}
 use Rattle.ca_grammar.specs.Goals.{Goal, Tree}

@@ -13,10 +13,10 @@ use Rattle.ca_tree.specs.declared.tree.Right.{Right}
 use Rattle.ca_tree.specs.declared.tree.Stmt.{Stmt}
 use Rattle.ca_tree.specs.declared.tree.Stmt.TheVariants as s
 use Rattle.ca_grammar.specs.declared.faults.Count.{Count}
-use Rattle.ca_grammar.specs.declared.faults.Counted.TheVariants.{Items, Nesting}
+use Rattle.ca_tree.specs.declared.counted.Counted.TheVariants.{Items, Nesting}
+use Rattle.ca_tree.specs.StatementTrees.{Branch, closed, item}
 use Rattle.ca_grammar.specs.Words.{The_word, A_name, open_paren, close_paren, open_brace, close_brace, comma, semicolon}
 use Rattle.ca_grammar.specs.Expressions.{name}
-use Rattle.ca_grammar.specs.Statements.{Branch, closed, item}
 use Rattle.ca_grammar.specs.Goals.{Goal, Numbered, Starred, Expression, Starred_name, Initializer, Simple_at, First_declarator, More_declarators, More_threads, Threads_at, Variables_at, Local_at, Statements, A_statement, Braceless, A_body, Condition, Else_part, For_first, For_condition, For_step}
 use Rattle.ca_grammar.specs.Plan.{Plan, give, take, want, call, last, these, and_name, counted}
 use Rattle.ca_grammar.specs.PhrasePlans.{must, maybe}

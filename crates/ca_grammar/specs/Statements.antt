@@ -16,23 +16,15 @@ use Rattle.ca_tree.specs.declared.tree.ForFirst.{ForFirst}
 use Rattle.ca_tree.specs.declared.tree.ForFirst.TheVariants as first
 use Rattle.ca_tree.specs.declared.tree.Stmt.{Stmt}
 use Rattle.ca_tree.specs.declared.tree.Stmt.TheVariants as s
-use Rattle.ca_grammar.specs.declared.faults.Counted.TheVariants.{Items, Nesting}
+use Rattle.ca_tree.specs.declared.counted.Counted.TheVariants.{Items, Nesting}
+use Rattle.ca_tree.specs.PhraseTrees.{has_star}
+use Rattle.ca_tree.specs.StatementTrees.{Branch, Head, item, closed}
 use Rattle.ca_grammar.specs.declared.operand.Operand.{Operand}
 use Rattle.ca_grammar.specs.Words.{The_word, Takes, Skips, Lacks, place, open_paren, close_paren, open_brace, close_brace, comma, semicolon}
 use Rattle.ca_grammar.specs.Limits.{Allowed, Limit}
 use Rattle.ca_grammar.specs.Expressions.{name}
-use Rattle.ca_grammar.specs.Phrases.{Names, Expression, has_star, Stars, A_base, An_initializer, A_simple, An_optional_expression}
+use Rattle.ca_grammar.specs.Phrases.{Names, Expression, Stars, A_base, An_initializer, A_simple, An_optional_expression}
 use Rattle.ca_grammar.specs.Phrases as phrase
-
--- a statement, and whether an `else` behind it would belong to an `if` in it
-pub record Branch : Type 0 where
-  pub stmt : Stmt
-  pub is_open : Bool
-
--- the first part of the head of a `for`, its condition, or its step; and its item
-pub record Head (X : Type 0) : Type 0 where
-  pub item : ItemAt
-  pub what : X
 
 -- what can be spelled; in a loop or not, and d deep
 pub data Part : Type 0 where
@@ -63,13 +55,6 @@ Tree For_first = Option ForFirst
 Tree For_condition = Head (Option Exp)
 Tree For_step = Option (ItemAt × Simple)
 Tree (Statements in_loop d) = List Stmt
-
--- the item numbered n, at a place
-abbrev pub item : ℕ → Pos → ItemAt
-item n p = record { id = record { 0 = n }; pos = p }
-
-abbrev pub closed : Stmt → Branch
-closed a = record { stmt = a; is_open = false }
 
 -- the next item begins here
 pub record Begins (allowed : Allowed) (n : ℕ) (p : Pos) (ts : List Token) : Type 0 where

@@ -1,7 +1,5 @@
 -- What one token may have to be: a mark, a word, a number, a string, a name or an operator.
-use Rattle.std.specs.Prelude.{◌≡◌, ℕ, ℤ, Bool, false, ◌||◌, List, [], ◌∷◌, Option, Some, None, codes, pos, negsuc, true}
-use Rattle.std.specs.List.{list_any}
-use Rattle.std.specs.Str.{bytes_eq}
+use Rattle.std.specs.Prelude.{◌≡◌, ℕ, ℤ, Bool, false, List, [], ◌∷◌, Option, Some, None, codes, true}
 use Rattle.ca_tree.specs.declared.text.Pos.{Pos}
 use Rattle.ca_tree.specs.declared.token.Mark.{Mark}
 use Rattle.ca_tree.specs.declared.token.Mark.TheVariants as mark
@@ -15,47 +13,8 @@ use Rattle.ca_tree.specs.declared.tree.BinaryOp.TheVariants as op
 use Rattle.ca_tree.specs.declared.tree.UpdateOp.{UpdateOp}
 use Rattle.ca_tree.specs.declared.tree.UpdateOp.TheVariants as update
 use Rattle.ca_tree.specs.Lexed.{token}
-
--- keywords of C11 (6.4.1) that the grammar has
-abbrev pub kept_keywords : List (List ℕ)
-kept_keywords =
-    codes "int" ∷ codes "struct" ∷ codes "void" ∷ codes "static" ∷ codes "volatile" ∷ codes "return" ∷ codes "break" ∷ codes "continue" ∷ codes "if"
-    ∷ codes "else" ∷ codes "while" ∷ codes "do" ∷ codes "for" ∷ codes "sizeof" ∷ []
-
--- and those that it leaves out
-abbrev pub plain_left_out : List (List ℕ)
-plain_left_out =
-    codes "auto" ∷ codes "case" ∷ codes "char" ∷ codes "const" ∷ codes "default" ∷ codes "double" ∷ codes "enum" ∷ codes "extern" ∷ codes "float"
-    ∷ codes "goto" ∷ codes "inline" ∷ codes "long" ∷ codes "register" ∷ codes "restrict" ∷ codes "short" ∷ codes "signed" ∷ codes "switch"
-    ∷ codes "typedef" ∷ codes "union" ∷ codes "unsigned" ∷ []
-
-abbrev pub underscored_left_out : List (List ℕ)
-underscored_left_out =
-    codes "_Alignas" ∷ codes "_Alignof" ∷ codes "_Atomic" ∷ codes "_Bool" ∷ codes "_Complex" ∷ codes "_Generic" ∷ codes "_Imaginary"
-    ∷ codes "_Noreturn" ∷ codes "_Static_assert" ∷ codes "_Thread_local" ∷ []
-
--- names of the libraries that no program gives to a thing of its own
-abbrev pub reserved_names : List (List ℕ)
-reserved_names = codes "NULL" ∷ codes "PTHREAD_MUTEX_INITIALIZER" ∷ codes "pthread_t" ∷ codes "pthread_mutex_t" ∷ []
-
--- the calls of the library (C11 7, POSIX `pthread.h`)
-abbrev pub library_words : List (List ℕ)
-library_words =
-    codes "malloc" ∷ codes "free" ∷ codes "assert" ∷ codes "printf" ∷ codes "pthread_mutex_lock" ∷ codes "pthread_mutex_unlock"
-    ∷ codes "pthread_create" ∷ codes "pthread_join" ∷ []
-
-abbrev pub is_one_of : List (List ℕ) → List ℕ → Bool
-is_one_of words t = list_any (λ w. bytes_eq t w) words
-
-unfoldable pub is_left_out : List ℕ → Bool
-is_left_out t = is_one_of plain_left_out t || is_one_of underscored_left_out t
-
--- what is no name
-unfoldable pub is_reserved : List ℕ → Bool
-is_reserved t = is_one_of kept_keywords t || (is_left_out t || is_one_of reserved_names t)
-
-unfoldable pub is_library_word : List ℕ → Bool
-is_library_word t = is_one_of library_words t
+use Rattle.ca_tree.specs.Names.{is_reserved, is_library_word}
+use Rattle.ca_tree.specs.TreeWords.{is_natural}
 
 abbrev pub unary_operator : Word → Option UnaryOp
 unary_operator (word.Mark mark.Minus) = Some Negate
@@ -109,11 +68,6 @@ abbrev pub step_operator : Word → Option UpdateOp
 step_operator (word.Mark mark.Increment) = Some update.Add
 step_operator (word.Mark mark.Decrement) = Some update.Sub
 step_operator w = None
-
--- a number of a text has no sign
-abbrev pub is_natural : ℤ → Bool
-is_natural (pos n) = true
-is_natural (negsuc n) = false
 
 -- what a token may have to be
 pub data Class : Type 0 where

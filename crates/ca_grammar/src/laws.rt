@@ -7,7 +7,7 @@ ghost use Rattle.ca_grammar.specs.declared.faults.ReadFault.{ReadFault};
 ghost use Rattle.ca_grammar.specs.Texts.{AnExpression, AProgram, EndsOnce};
 ghost use Rattle.ca_grammar.specs.Faults.{IsFault};
 ghost use Rattle.ca_grammar.specs.Laws.{OneExpression, OneProgram, EachIsSpelled, all_kept};
-ghost use Rattle.ca_grammar.specs.ProgramTrees.{EachProgramIsSpelled};
+ghost use Rattle.ca_grammar.specs.Laws.{EachProgramIsSpelled};
 
 /// A list of tokens, the end last, spells at most one expression, whatever is allowed to be counted in it.
 pub fn tokens_spell_one_expression()

@@ -9,7 +9,7 @@ use Rattle.ca_tree.specs.declared.tree.Exp.{Exp}
 use Rattle.ca_tree.specs.declared.tree.Base.{Base}
 use Rattle.ca_tree.specs.declared.tree.Base.TheVariants as base
 use Rattle.ca_grammar.specs.declared.faults.Count.{Count}
-use Rattle.ca_grammar.specs.declared.faults.Counted.TheVariants.{Arguments}
+use Rattle.ca_tree.specs.declared.counted.Counted.TheVariants.{Arguments}
 use Rattle.ca_grammar.specs.declared.operand.Operand.{Operand}
 use Rattle.ca_grammar.specs.Words.{The_mark, The_word, Takes, Lacks, open_paren, star, comma, close_paren}
 use Rattle.ca_grammar.specs.Limits.{Rule, the_limits}

@@ -22,11 +22,11 @@ use Rattle.ca_tree.specs.declared.tree.ParameterType.{ParameterType}
 use Rattle.ca_tree.specs.declared.tree.Parameter.{Parameter}
 use Rattle.ca_tree.specs.declared.tree.Top.{Top}
 use Rattle.ca_grammar.specs.declared.faults.Count.{Count}
-use Rattle.ca_grammar.specs.declared.faults.Counted.TheVariants.{Fields as Field_count}
+use Rattle.ca_tree.specs.declared.counted.Counted.TheVariants.{Fields as Field_count}
+use Rattle.ca_tree.specs.Counts.{Totals, one_more_mutex, one_more_global, nothing_yet}
 use Rattle.ca_grammar.specs.Words.{The_word, A_name, Takes, Lacks, assign, close_brace}
 use Rattle.ca_grammar.specs.Expressions.{name}
 use Rattle.ca_grammar.specs.Limits.{Rule, Star, the_limits}
-use Rattle.ca_grammar.specs.Declarations.{Totals, one_more_mutex, one_more_global, nothing_yet}
 use Rattle.ca_grammar.specs.Goals.{Goal, Tree, Starred, Stars, Starred_name, Base_at, Mutexes, Threads, A_constant, Behind_global, More_globals, Next_global, Field_declarators, A_field, Behind_type, More_parameters, Next_parameter, Behind_base, Behind_tag, Qualified, A_top, Tops}
 use Rattle.ca_grammar.specs.Plan.{Plan, give, take, want, call, last, these, and_name, bytes_of_name, counted}
 use Rattle.ca_grammar.specs.PhrasePlans.{behind_star, must, maybe}

@@ -15,10 +15,10 @@ use Rattle.ca_tree.specs.declared.tree.Globals.TheVariants as globals
 use Rattle.ca_tree.specs.declared.tree.ParameterType.{ParameterType}
 use Rattle.ca_tree.specs.declared.tree.Top.{Top}
 use Rattle.ca_tree.specs.declared.tree.Top.TheVariants as top
+use Rattle.ca_tree.specs.Counts.{Totals, one_more_global, one_more_mutex}
 use Rattle.ca_grammar.specs.declared.faults.Count.{Count}
 use Rattle.ca_grammar.specs.Words.{The_mark, The_word, A_number, A_name, comma, assign}
 use Rattle.ca_grammar.specs.Limits.{the_limits}
-use Rattle.ca_grammar.specs.Declarations.{Totals, one_more_global, one_more_mutex}
 use Rattle.ca_grammar.specs.Goals.{Goal, Tree, Totalled, Stars, Mutexes, Threads, Behind_global, Next_global, Behind_type, Next_parameter, Behind_base, Behind_void}
 use Rattle.ca_grammar.specs.Plan.{Plan, take, want, call, no_counts, these, and_name}
 use Rattle.ca_grammar.specs.PhrasePlans.{must, maybe}

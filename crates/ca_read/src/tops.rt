@@ -2,7 +2,8 @@
 
 ghost use Rattle.std.specs.Prelude.{◌≡◌, ◌<◌, ◌≤◌, length, IfOk, IfSome, MatchOption};
 ghost use Rattle.ca_tree.specs.declared.tree.ResultType.TheVariants.{Value};
-ghost use Rattle.ca_grammar.specs.Declarations.{stars_missing, nothing_yet as nothing_of};
+ghost use Rattle.ca_tree.specs.Counts.{nothing_yet as nothing_of};
+ghost use Rattle.ca_grammar.specs.Declarations.{stars_missing};
 ghost use Rattle.ca_grammar.specs.Goals.{Behind_base, Behind_void, Qualified, Behind_tag, A_top, Tops, A_program};
 ghost use Rattle.ca_expressions.specs.Reading.{Reading};
 ghost use Rattle.ca_read.specs.Declaring.{totals_of, AreWithin, Declares, Qualifies};

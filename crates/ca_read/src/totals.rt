@@ -2,7 +2,7 @@
 
 ghost use Rattle.std.specs.Prelude.{◌≡◌, ◌<◌, ◌≤◌, ℕ, ◌^◌, suc, length, IfOk, None};
 ghost use Rattle.ca_grammar.specs.Plan.{counted};
-ghost use Rattle.ca_grammar.specs.Declarations.{nothing_yet as nothing_of, one_more_global as one_more_global_of, one_more_mutex as one_more_mutex_of, one_more_struct as one_more_struct_of, one_more_function as one_more_function_of};
+ghost use Rattle.ca_tree.specs.Counts.{nothing_yet as nothing_of, one_more_global as one_more_global_of, one_more_mutex as one_more_mutex_of, one_more_struct as one_more_struct_of, one_more_function as one_more_function_of};
 ghost use Rattle.ca_expressions.specs.Reading.{IsExceeded};
 ghost use Rattle.ca_read.specs.Declaring.{totals_of, AreWithin, StarsAndName, Separates};
 

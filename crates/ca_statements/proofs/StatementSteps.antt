@@ -14,7 +14,6 @@ use Rattle.ca_grammar.specs.declared.faults.Count.{Count}
 use Rattle.ca_grammar.specs.declared.operand.Operand.{Operand}
 use Rattle.ca_grammar.specs.Limits.{Rule, the_limits}
 use Rattle.ca_grammar.specs.Words.{Class, Of, The_word, A_name, Takes, Lacks, comma, semicolon, close_brace}
-use Rattle.ca_grammar.specs.Statements.{item, closed}
 use Rattle.ca_grammar.specs.Goals.{Goal, Starred, Primary, Level, Nameless_unary, Expression, Starred_name, Simple_at, First_declarator, More_declarators, Variables_at, More_threads, Threads_at, Local_at, Numbered, Statements, A_body, Braceless, Condition, Else_part, Tree}
 use Rattle.ca_grammar.specs.Plan.{Plan, give, take, want, call, last, no_counts, these, deep, and_name}
 use Rattle.ca_grammar.specs.StatementPlans.{numbered, an_item, nested, nested_item, behind_locals, behind_statement, at_close, if_closed, without_else, with_else, simply_said}
@@ -27,7 +26,8 @@ use Rattle.ca_tree.specs.declared.tree.Stmt.TheVariants as s
 use Rattle.ca_tree.specs.declared.tree.Exp.{Exp}
 use Rattle.ca_tree.specs.declared.tree.ItemAt.{ItemAt}
 use Rattle.ca_tree.specs.declared.token.Mark.TheVariants as mark
-use Rattle.ca_grammar.specs.Statements as statement
+use Rattle.ca_tree.specs.StatementTrees.{item, closed}
+use Rattle.ca_tree.specs.StatementTrees as tree
 use Rattle.ca_statements.specs.declared.statements.Branch.{Branch}
 use Rattle.ca_statements.specs.declared.statements.Keyword.{Keyword}
 use Rattle.ca_statements.specs.declared.statements.Keyword.TheVariants.{If, While, Do, For}
@@ -275,7 +275,7 @@ keyword_read w v in_loop d n p ts us r e t f h =
 
 -- ---- the `else` of an `if`
 
-module _ (in_loop : Bool) (d : ℕ) (i : ItemAt) (c : Exp) (a : statement.Branch) (n : ℕ) where
+module _ (in_loop : Bool) (d : ℕ) (i : ItemAt) (c : Exp) (a : tree.Branch) (n : ℕ) where
   abbrev pub AtElse : (ts : List Token) (o : Outcome (Else_part in_loop d i c a n)) → Type 0
   AtElse ts o = Reads the_limits (Else_part in_loop d i c a n) (plan (Else_part in_loop d i c a n)) ts o
 
@@ -295,7 +295,7 @@ module _ (in_loop : Bool) (d : ℕ) (i : ItemAt) (c : Exp) (a : statement.Branch
   pub else_fails : (p : Pos) (ts us vs : List Token) (r : Option Rule) → a.is_open ≡ false → Takes (The_word (codes "else")) ts p tt us → Reads the_limits (A_body in_loop (suc d) n) (plan (A_body in_loop (suc d) n)) us (No r vs) → AtElse ts (No r vs)
   else_fails p ts us vs r e t k = subst (λ b. WithOpen b ts (No r vs)) (sym e) (takes t refl (fails k))
 
-  pub else_read : (p : Pos) (ts us vs : List Token) (b : Numbered statement.Branch) → a.is_open ≡ false → Takes (The_word (codes "else")) ts p tt us → IsRead (A_body in_loop (suc d) n) us vs b
+  pub else_read : (p : Pos) (ts us vs : List Token) (b : Numbered tree.Branch) → a.is_open ≡ false → Takes (The_word (codes "else")) ts p tt us → IsRead (A_body in_loop (suc d) n) us vs b
       → AtElse ts (Yes (numbered (with_else i c a b.what) b.items) vs)
   else_read p ts us vs b e t k = subst (λ x. WithOpen x ts (Yes (numbered (with_else i c a b.what) b.items) vs)) (sym e) (takes t refl (calls k gives))
 
@@ -335,7 +335,7 @@ statements_end in_loop d of_function n m all p us vs ts t e h =
 abbrev BranchAnswer : Type 0
 BranchAnswer = Result (Branch × Bor (List Token)) Stop
 
-pub if_read : (in_loop : Bool) (d n k m : ℕ) (c : Operand) (i : ItemAt) (a : Numbered statement.Branch) (ts us vs : List Token) (r : BranchAnswer) → i ≡ item (suc n) c.pos → k ≡ suc d → m ≡ suc n → IsRead (Condition n) ts us c
+pub if_read : (in_loop : Bool) (d n k m : ℕ) (c : Operand) (i : ItemAt) (a : Numbered tree.Branch) (ts us vs : List Token) (r : BranchAnswer) → i ≡ item (suc n) c.pos → k ≡ suc d → m ≡ suc n → IsRead (Condition n) ts us c
     → IsRead (A_body in_loop k m) us vs a → Reading (Else_part in_loop d i c.exp a.what a.items) branch_and_rest vs r → Following (Braceless in_loop d n) (behind_keyword If in_loop d n) branch_and_rest ts r
 if_read in_loop d n k m c i a ts us vs r e f h x y z =
     let body : IsRead (A_body in_loop (suc d) (suc n)) us vs a = subst (λ m. IsRead (A_body in_loop (suc d) m) us vs a) h (subst (λ k. IsRead (A_body in_loop k m) us vs a) f y) in
@@ -343,13 +343,13 @@ if_read in_loop d n k m c i a ts us vs r e f h x y z =
     let rest : Reading q branch_and_rest vs r = subst (λ i. Reading (Else_part in_loop d i c.exp a.what a.items) branch_and_rest vs r) e z in
     follow_on q (Braceless in_loop d n) (plan q) (behind_keyword If in_loop d n) branch_and_rest branch_and_rest vs ts r (λ o w. calls x (calls body (calls w gives))) (λ o us w. calls x (calls body (fails w))) rest
 
-pub while_read : (in_loop : Bool) (d n k m : ℕ) (c : Operand) (i : ItemAt) (a b : Numbered statement.Branch) (ts us vs : List Token) → i ≡ item (suc n) c.pos → k ≡ suc d → m ≡ suc n → b ≡ while_of i c.exp a
+pub while_read : (in_loop : Bool) (d n k m : ℕ) (c : Operand) (i : ItemAt) (a b : Numbered tree.Branch) (ts us vs : List Token) → i ≡ item (suc n) c.pos → k ≡ suc d → m ≡ suc n → b ≡ while_of i c.exp a
     → IsRead (Condition n) ts us c → IsRead (A_body true k m) us vs a → Reads the_limits (Braceless in_loop d n) (behind_keyword While in_loop d n) ts (Yes b vs)
 while_read in_loop d n k m c i a b ts us vs e f h j x y =
     let body : IsRead (A_body true (suc d) (suc n)) us vs a = subst (λ m. IsRead (A_body true (suc d) m) us vs a) h (subst (λ k. IsRead (A_body true k m) us vs a) f y) in
     answers (Braceless in_loop d n) (behind_keyword While in_loop d n) ts vs b _ (j ∙ ap (λ i. while_of i c.exp a) e) (calls x (calls body gives))
 
-pub do_read : (in_loop : Bool) (d n k : ℕ) (c : Operand) (i : ItemAt) (a b : Numbered statement.Branch) (p q : Pos) (ts us vs ws xs : List Token) → i ≡ item (suc a.items) c.pos → k ≡ suc d → b ≡ do_of a i c.exp
+pub do_read : (in_loop : Bool) (d n k : ℕ) (c : Operand) (i : ItemAt) (a b : Numbered tree.Branch) (p q : Pos) (ts us vs ws xs : List Token) → i ≡ item (suc a.items) c.pos → k ≡ suc d → b ≡ do_of a i c.exp
     → IsRead (A_body true k n) ts us a → Takes (The_word (codes "while")) us p tt vs → IsRead (Condition a.items) vs ws c → Takes semicolon ws q tt xs
     → Reads the_limits (Braceless in_loop d n) (behind_keyword Do in_loop d n) ts (Yes b xs)
 do_read in_loop d n k c i a b p q ts us vs ws xs e f j y t x u =

@@ -16,12 +16,12 @@ use Rattle.ca_tree.specs.declared.tree.Simple.{Simple}
 use Rattle.ca_tree.specs.declared.tree.ItemAt.{ItemAt}
 use Rattle.ca_tree.specs.declared.tree.ForHead.{ForHead}
 use Rattle.ca_tree.specs.declared.tree.ForFirst.TheVariants as first
+use Rattle.ca_tree.specs.StatementTrees.{item}
+use Rattle.ca_tree.specs.StatementTrees as tree
 use Rattle.ca_grammar.specs.declared.faults.Count.{Count}
 use Rattle.ca_grammar.specs.Words.{Class, Of, The_mark, The_word, A_name, Takes, Lacks, semicolon}
 use Rattle.ca_grammar.specs.Limits.{Limit, the_limits, within}
 use Rattle.ca_grammar.specs.Expressions.{name}
-use Rattle.ca_grammar.specs.Statements.{item}
-use Rattle.ca_grammar.specs.Statements as statement
 use Rattle.ca_grammar.specs.Goals.{Goal, Placed, Numbered, Starred_name, Initializer, More_declarators, More_threads, Threads_at, Variables_at, Local_at, Simple_at, Statements, A_statement, Braceless, A_body, For_first}
 use Rattle.ca_grammar.specs.Plan.{Plan, give, take, want, call, last, these, and_name}
 use Rattle.ca_grammar.specs.PhrasePlans.{must}
@@ -106,19 +106,19 @@ SkipsVolatiles ts us = (p : Pos) (n : ℕ) (o : Outcome (Local_at p n)) → Read
 -- ---- statements
 
 -- a statement as the grammar has it
-abbrev pub branch : Branch → Numbered statement.Branch
+abbrev pub branch : Branch → Numbered tree.Branch
 branch b = numbered (record { stmt = b.stmt; is_open = b.is_open }) b.items
 
-abbrev pub branch_and_rest : Branch × Bor (List Token) → Numbered statement.Branch × List Token
+abbrev pub branch_and_rest : Branch × Bor (List Token) → Numbered tree.Branch × List Token
 branch_and_rest x = (branch x.0, x.1.now)
 
-abbrev pub while_of : ItemAt → Exp → Numbered statement.Branch → Numbered statement.Branch
+abbrev pub while_of : ItemAt → Exp → Numbered tree.Branch → Numbered tree.Branch
 while_of i c a = numbered (record { stmt = s.While i c a.what.stmt; is_open = a.what.is_open }) a.items
 
-abbrev pub do_of : Numbered statement.Branch → ItemAt → Exp → Numbered statement.Branch
-do_of a i c = numbered (statement.closed (s.Do a.what.stmt i c)) (suc a.items)
+abbrev pub do_of : Numbered tree.Branch → ItemAt → Exp → Numbered tree.Branch
+do_of a i c = numbered (tree.closed (s.Do a.what.stmt i c)) (suc a.items)
 
-abbrev pub for_of : ForHead → Numbered statement.Branch → Numbered statement.Branch
+abbrev pub for_of : ForHead → Numbered tree.Branch → Numbered tree.Branch
 for_of h a = numbered (record { stmt = s.For h a.what.stmt; is_open = a.what.is_open }) a.items
 
 abbrev pub first_simple_plan : (n : ℕ) → Plan (For_first n)
@@ -146,7 +146,7 @@ ForHeadRead n ts (Err e) = (in_loop : Bool) (d : ℕ) → StopsIn (Braceless in_
 abbrev pub Leaps : Stmt → (d n : ℕ) (us ts : List Token) → Result (Branch × Bor (List Token)) Stop → Type 0
 Leaps a d n us ts r =
     (in_loop : Bool) (c : Class) (on : Pos → Of c → Plan (Braceless in_loop d n)) (otherwise : Plan (Braceless in_loop d n)) (p : Pos) (x : Of c)
-    → Takes c ts p x us → on p x ≡ must semicolon (give (numbered (statement.closed a) n)) → Following (Braceless in_loop d n) (take c None (these (nested d)) on otherwise) branch_and_rest ts r
+    → Takes c ts p x us → on p x ≡ must semicolon (give (numbered (tree.closed a) n)) → Following (Braceless in_loop d n) (take c None (these (nested d)) on otherwise) branch_and_rest ts r
 
 -- what begins a statement with a statement in it
 abbrev pub keyword_of : Keyword → List ℕ

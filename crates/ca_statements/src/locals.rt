@@ -2,9 +2,9 @@
 
 ghost use Rattle.std.specs.Prelude.{◌≡◌, ◌<◌, ◌≤◌, suc, None, codes, length, IfOk, IfSome, MatchOption};
 ghost use Rattle.ca_tree.specs.declared.text.Pos.{Pos};
-ghost use Rattle.ca_grammar.specs.declared.faults.Counted.TheVariants.{Items, Nesting};
+ghost use Rattle.ca_tree.specs.declared.counted.Counted.TheVariants.{Items, Nesting};
+ghost use Rattle.ca_tree.specs.StatementTrees.{item as item_of};
 ghost use Rattle.ca_grammar.specs.Words.{The_word, Takes, Lacks};
-ghost use Rattle.ca_grammar.specs.Statements.{item as item_of};
 ghost use Rattle.ca_grammar.specs.Goals.{First_declarator, Threads_at, Variables_at, Local_at};
 ghost use Rattle.ca_grammar.specs.Plan.{counted, and_name};
 ghost use Rattle.ca_grammar.specs.StatementPlans.{an_item, nested_item};

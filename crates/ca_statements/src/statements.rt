@@ -2,8 +2,8 @@
 
 ghost use Rattle.std.specs.Prelude.{◌≡◌, ◌<◌, ◌≤◌, ℕ, Bool, true, None, length, IfOk, MatchOption};
 ghost use Rattle.ca_tree.specs.declared.text.Pos.{Pos};
+ghost use Rattle.ca_tree.specs.StatementTrees.{closed as closed_of};
 ghost use Rattle.ca_grammar.specs.Words.{The_word, Takes};
-ghost use Rattle.ca_grammar.specs.Statements.{closed as closed_of};
 ghost use Rattle.ca_grammar.specs.Goals.{Statements, A_statement, Braceless, A_body, Condition, Else_part, For_first, For_condition, For_step};
 ghost use Rattle.ca_grammar.specs.StatementPlans.{nested, nested_item, an_item, at_close, numbered, without_else as without_else_of, with_else as with_else_of, first_local as first_local_plan, behind_return as behind_return_plan, simply_said as simply_said_plan, in_loops as in_loops_plan};
 ghost use Rattle.ca_expressions.specs.Reading.{Following, Reading, IsExceeded};

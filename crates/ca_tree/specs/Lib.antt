@@ -2,3 +2,10 @@ pub mod formers
 pub mod Places
 pub mod Tokens
 pub mod Lexed
+pub mod Counts
+pub mod Names
+pub mod TreeWords
+pub mod ExpressionTrees
+pub mod PhraseTrees
+pub mod StatementTrees
+pub mod ProgramTrees

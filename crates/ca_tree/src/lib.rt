@@ -2,6 +2,7 @@
 //! answer for want of memory.
 #![tactic(auto)]
 
+mod counted;
 pub mod listed;
 mod no_memory;
 mod numbers;
@@ -9,6 +10,7 @@ mod text;
 mod token;
 pub mod tree;
 
+pub use counted::Counted;
 pub use listed::Listed;
 pub use no_memory::NoMemory;
 pub use numbers::{FunId, GlobalId, ItemId, MutexId, SiteId, StructId, VarId};

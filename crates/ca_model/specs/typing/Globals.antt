@@ -13,10 +13,10 @@ use Rattle.ca_tree.specs.declared.tree.ThreadDeclarator.{ThreadDeclarator}
 use Rattle.ca_tree.specs.declared.tree.GlobalDeclarator.{GlobalDeclarator}
 use Rattle.ca_tree.specs.declared.tree.Globals.{Globals as GlobalsOf}
 use Rattle.ca_tree.specs.declared.tree.Globals.TheVariants as globals
+use Rattle.ca_tree.specs.Names.{is_library_word}
 use Rattle.ca_model.specs.declared.values.Value.{Value}
 use Rattle.ca_model.specs.declared.values.Value.TheVariants as value
 use Rattle.ca_model.specs.declared.tree.GlobalStart.{GlobalStart}
-use Rattle.ca_grammar.specs.Words.{is_library_word}
 use Rattle.ca_model.specs.declared.types.TypeFault.{TypeFault}
 use Rattle.ca_model.specs.declared.types.ObjectType.{ObjectType}
 use Rattle.ca_model.specs.declared.types.Meaning.{Meaning}

@@ -10,12 +10,12 @@ use Rattle.ca_tree.specs.declared.tree.LocalDeclarator.{LocalDeclarator}
 use Rattle.ca_tree.specs.declared.tree.ThreadLocal.{ThreadLocal}
 use Rattle.ca_tree.specs.declared.tree.Locals.{Locals}
 use Rattle.ca_tree.specs.declared.tree.Locals.TheVariants as locals
+use Rattle.ca_tree.specs.Names.{is_library_word}
 use Rattle.ca_model.specs.declared.tree.Target.TheVariants as target
 use Rattle.ca_model.specs.declared.tree.Act.{Act}
 use Rattle.ca_model.specs.declared.tree.Act.TheVariants as act
 use Rattle.ca_model.specs.declared.tree.Item.{Item}
 use Rattle.ca_model.specs.declared.tree.Stmt.TheVariants as s
-use Rattle.ca_grammar.specs.Words.{is_library_word}
 use Rattle.ca_model.specs.declared.types.TypeFault.{TypeFault}
 use Rattle.ca_model.specs.declared.types.ObjectType.{ObjectType}
 use Rattle.ca_model.specs.declared.types.Meaning.{Meaning}

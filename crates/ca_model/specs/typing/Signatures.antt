@@ -8,7 +8,7 @@ use Rattle.ca_tree.specs.declared.tree.ParameterType.{ParameterType}
 use Rattle.ca_tree.specs.declared.tree.ParameterType.TheVariants as parameter
 use Rattle.ca_tree.specs.declared.tree.Parameter.{Parameter}
 use Rattle.ca_tree.specs.declared.tree.Function.{Function}
-use Rattle.ca_grammar.specs.Words.{is_library_word}
+use Rattle.ca_tree.specs.Names.{is_library_word}
 use Rattle.ca_model.specs.declared.types.TypeFault.{TypeFault}
 use Rattle.ca_model.specs.declared.types.ObjectType.{ObjectType}
 use Rattle.ca_model.specs.declared.types.Meaning.{Meaning}

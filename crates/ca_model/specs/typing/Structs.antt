@@ -7,7 +7,7 @@ use Rattle.ca_tree.specs.declared.tree.Base.{Base}
 use Rattle.ca_tree.specs.declared.tree.Declarator.{Declarator}
 use Rattle.ca_tree.specs.declared.tree.Fields.{Fields as FieldsOf}
 use Rattle.ca_tree.specs.declared.tree.Struct.{Struct}
-use Rattle.ca_grammar.specs.Words.{is_library_word}
+use Rattle.ca_tree.specs.Names.{is_library_word}
 use Rattle.ca_model.specs.declared.types.TypeFault.{TypeFault}
 use Rattle.ca_model.specs.declared.types.ObjectType.{ObjectType}
 use Rattle.ca_model.specs.declared.types.TypeKind.TheVariants as wrong

@@ -1,5 +1,5 @@
 use Rattle.std.proofs.Common.{◌≡◌, map, drop}
-use Rattle.ca_grammar.specs.Words.{is_one_of}
+use Rattle.ca_tree.specs.Names.{is_one_of}
 use Rattle.ca_form.proofs.form.is_one_of.Given as goal
 
 abbrev pub invariant-names : goal.invariant-names

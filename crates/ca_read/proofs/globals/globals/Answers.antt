@@ -1,6 +1,6 @@
 use Rattle.std.proofs.Common.{arith}
 use Rattle.std.proofs.lemmas.Result.{err_from_is_err_and}
-use Rattle.ca_grammar.specs.Declarations.{one_more_global}
+use Rattle.ca_tree.specs.Counts.{one_more_global}
 use Rattle.ca_grammar.specs.Goals.{Next_global}
 use Rattle.ca_read.specs.Declaring.{totals_of}
 use Rattle.ca_expressions.proofs.Following.{pass}

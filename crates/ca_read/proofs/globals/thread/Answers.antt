@@ -1,6 +1,6 @@
 use Rattle.std.proofs.lemmas.Result.{err_from_is_err_and}
 use Rattle.ca_tree.specs.declared.token.Mark.TheVariants.{Semicolon}
-use Rattle.ca_grammar.specs.Declarations.{one_more_global}
+use Rattle.ca_tree.specs.Counts.{one_more_global}
 use Rattle.ca_grammar.specs.DeclarationPlans.{behind_thread}
 use Rattle.ca_grammar.specs.Goals.{Threads}
 use Rattle.ca_grammar.specs.Reads.{No}

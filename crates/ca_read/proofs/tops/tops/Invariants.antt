@@ -1,5 +1,5 @@
 use Rattle.std.proofs.Common.{◌≤◌, ◌++◌, length}
-use Rattle.ca_grammar.specs.Declarations.{nothing_yet}
+use Rattle.ca_tree.specs.Counts.{nothing_yet}
 use Rattle.ca_grammar.specs.DeclarationPlans.{totalled}
 use Rattle.ca_grammar.specs.Goals.{Tops}
 use Rattle.ca_grammar.specs.Reads.{plan}

@@ -1,6 +1,6 @@
 use Rattle.std.proofs.lemmas.Result.{err_from_is_err_and}
 use Rattle.ca_grammar.specs.Goals.{More_threads}
-use Rattle.ca_grammar.specs.declared.faults.Counted.TheVariants as counted
+use Rattle.ca_tree.specs.declared.counted.Counted.TheVariants as counted
 use Rattle.ca_expressions.proofs.Counts.{kept_next}
 use Rattle.ca_statements.proofs.locals.next_thread.Goals as goal
 

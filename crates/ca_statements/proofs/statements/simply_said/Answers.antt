@@ -1,6 +1,6 @@
 use Rattle.std.proofs.Common.{ap, arith, add-one}
 use Rattle.std.proofs.lemmas.Result.{err_from_is_err_and}
-use Rattle.ca_grammar.specs.Statements.{Branch}
+use Rattle.ca_tree.specs.StatementTrees.{Branch}
 use Rattle.ca_grammar.specs.Goals.{Numbered, Braceless}
 use Rattle.ca_grammar.specs.StatementPlans.{nested, simply_said}
 use Rattle.ca_grammar.specs.Reads.{gives}
