@@ -9,8 +9,8 @@ use Rattle.ca_grammar.specs.declared.faults.ReadFault.{ReadFault}
 use Rattle.ca_grammar.specs.Texts.{AProgram}
 use Rattle.ca_grammar.specs.Faults.{IsFault}
 use Rattle.ca_model.specs.Codes.{Typed}
-use Rattle.ca_model.specs.FirstForm.{StandsFor, AreFirst}
-use Rattle.ca_model.specs.Commands.{Loaded, Exceeded, IsRunOf, Cause, Unread, TooLong, NoTokens, NoProgram, NotBuilt, Ran, status, out_text, err_text, memory_text, Stands}
+use Rattle.ca_form.specs.FirstForm.{StandsFor, AreFirst}
+use Rattle.ca_cmd.specs.Commands.{Loaded, Exceeded, IsRunOf, Cause, Unread, TooLong, NoTokens, NoProgram, NotBuilt, Ran, status, out_text, err_text, memory_text, Stands}
 use Rattle.ca_io.specs.Ports.{PutPort, LoadPort, put_port, Wrote, WrotePart, HasFailed, HasFailedLoad}
 use Rattle.ca_io.proofs.Puts.{appends_nothing, part_whole}
 use Rattle.ca_cmd.specs.declared.refusals.Refusal.{Refusal}

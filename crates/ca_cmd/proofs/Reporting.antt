@@ -2,14 +2,14 @@
 use Rattle.std.proofs.Common.{◌≡◌, ℕ, List, [], sym, ap, ◌∙◌, subst, inl, inr}
 use Rattle.ca_tree.specs.declared.text.Pos.{Pos}
 use Rattle.ca_model.specs.declared.values.Ending.{Ending}
-use Rattle.ca_model.specs.declared.sums.Sums.{Sums}
+use Rattle.ca_form.specs.declared.parts.Sums.{Sums}
 use Rattle.ca_model.specs.Private.{Thread}
 use Rattle.ca_model.specs.Machine.{State}
 use Rattle.ca_model.specs.Codes.{Typed}
-use Rattle.ca_model.specs.FirstForm.{typed, IsFirstForm}
+use Rattle.ca_form.specs.FirstForm.{typed, IsFirstForm}
 use Rattle.ca_model.specs.SourceRuns.{rules_of}
-use Rattle.ca_model.specs.Reports.{wait_lines, text_of, report}
-use Rattle.ca_model.specs.Commands.{Loaded, ending_status, IsRunOfFile}
+use Rattle.ca_model.specs.Reports.{ending_status, wait_lines, text_of, report}
+use Rattle.ca_cmd.specs.Commands.{Loaded, IsRunOfFile}
 use Rattle.ca_io.specs.Ports.{PutPort, LoadPort, Wrote, WrotePart}
 use Rattle.ca_cmd.specs.declared.run.SourceRun.{SourceRun}
 use Rattle.ca_cmd.specs.Runs.{IsRunOfSource, HasEnded}

@@ -16,8 +16,9 @@ use Rattle.ca_model.specs.declared.values.FaultKind.TheVariants as fault
 use Rattle.ca_model.specs.declared.values.Ending.{Ending}
 use Rattle.ca_model.specs.declared.values.Ending.TheVariants as ending
 use Rattle.ca_model.specs.Codes.{Typed}
-use Rattle.ca_model.specs.FirstForm.{AreFirst, IsFirstForm}
-use Rattle.ca_model.specs.Commands.{source_limit, IsRunOf, Cause, Misworded, Unread, TooLong, NoTokens, NoProgram, NotBuilt, Ran, ending_status, status, Stands}
+use Rattle.ca_form.specs.FirstForm.{AreFirst, IsFirstForm}
+use Rattle.ca_model.specs.Reports.{ending_status}
+use Rattle.ca_cmd.specs.Commands.{source_limit, IsRunOf, Cause, Misworded, Unread, TooLong, NoTokens, NoProgram, NotBuilt, Ran, status, Stands}
 use Rattle.ca_io.specs.Outside.{IsTold}
 use Rattle.ca_io.specs.Ports.{PutPort, LoadPort, Wrote, HasFailed}
 use Rattle.ca_cmd.specs.Serving.{MayGive, Answers, Finishes, Faults, Refuses, MissesFile, Reports, IsCut, IsStatus, NoneFailed}

@@ -11,10 +11,10 @@ use Rattle.ca_model.specs.declared.values.EventAct.TheVariants as event
 use Rattle.ca_model.specs.declared.tree.GlobalStart.{GlobalStart}
 use Rattle.ca_model.specs.declared.tree.Item.{Item}
 use Rattle.ca_model.specs.declared.tree.Stmt.TheVariants as s
-use Rattle.ca_model.specs.declared.sums.Part.{Part}
-use Rattle.ca_model.specs.declared.sums.SumAct.{SumAct}
-use Rattle.ca_model.specs.declared.sums.SumAct.TheVariants as sum_act
-use Rattle.ca_model.specs.declared.sums.Sums.{Sums}
+use Rattle.ca_form.specs.declared.parts.Part.{Part}
+use Rattle.ca_form.specs.declared.parts.SumAct.{SumAct}
+use Rattle.ca_form.specs.declared.parts.SumAct.TheVariants as sum_act
+use Rattle.ca_form.specs.declared.parts.Sums.{Sums}
 use Rattle.ca_model.specs.Arith.{null, in32, fits32}
 use Rattle.ca_model.specs.Asks.{Want, Returns, Asks}
 use Rattle.ca_model.specs.Items.{Done}
@@ -26,7 +26,7 @@ use Rattle.ca_model.specs.Machine.{by}
 use Rattle.ca_model.specs.Codes.{Typed, code_of}
 use Rattle.ca_model.specs.Opening.{opening_shared, globals_from}
 use Rattle.ca_model.specs.SourceRuns.{no_plan, rules_of}
-use Rattle.ca_model.specs.FirstForm.{main_id, sum_of, act_of, format_text, place_of, items_from, return_item, close_item, typed, IsClosed, IsClosedPart, IsClosedAct}
+use Rattle.ca_form.specs.FirstForm.{main_id, sum_of, act_of, format_text, place_of, items_from, return_item, close_item, typed, IsClosed, IsClosedPart, IsClosedAct}
 use Rattle.std.proofs.lemmas.List.{length-set, length-replicate, get_or-replicate, get_or-set_same, get_or-set_other}
 use Rattle.std.proofs.lemmas.List.Elements.{All-head, All-tail}
 use Rattle.std.proofs.lemmas.Bool.{cases_eq}

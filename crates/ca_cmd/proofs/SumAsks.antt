@@ -10,17 +10,17 @@ use Rattle.ca_model.specs.declared.tree.Exp.{Exp}
 use Rattle.ca_model.specs.declared.tree.Exp.TheOpen.{Exp-F}
 use Rattle.ca_model.specs.declared.tree.Exp.TheVariants as e
 use Rattle.ca_model.specs.declared.tree.Act.TheVariants as act
-use Rattle.ca_model.specs.declared.sums.Part as sums
-use Rattle.ca_model.specs.declared.sums.Part.TheVariants as part
-use Rattle.ca_model.specs.declared.sums.SumAct.{SumAct}
-use Rattle.ca_model.specs.declared.sums.SumAct.TheVariants as sum_act
+use Rattle.ca_form.specs.declared.parts.Part as sums
+use Rattle.ca_form.specs.declared.parts.Part.TheVariants as part
+use Rattle.ca_form.specs.declared.parts.SumAct.{SumAct}
+use Rattle.ca_form.specs.declared.parts.SumAct.TheVariants as sum_act
 use Rattle.ca_model.specs.Arith.{operated}
 use Rattle.ca_model.specs.Asks.{Want, Reads, Writes, Prints, Returns, Got, Is, Wants, No_result, Asks, then, ◌>>=◌, ◌>>◌, give, ask, result}
 use Rattle.ca_model.specs.Printed.{written}
 use Rattle.ca_model.specs.Eval as eval
 use Rattle.ca_model.specs.Eval.{Spot, spot, exp_step, place_step}
 use Rattle.ca_model.specs.Items.{Done, done, At_cell, write, act_run}
-use Rattle.ca_model.specs.FirstForm.{global_place, part_exp, sum_after, sum_exp, sum_of, act_of, format_text}
+use Rattle.ca_form.specs.FirstForm.{global_place, part_exp, sum_after, sum_exp, sum_of, act_of, format_text}
 use Rattle.ca_model.proofs.Chains.{then_then}
 use Rattle.ca_model.proofs.Induction.{part_out, spot_roll}
 use Rattle.ca_cmd.specs.Running.{cell_of}

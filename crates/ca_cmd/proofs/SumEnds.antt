@@ -3,12 +3,12 @@ use Rattle.std.proofs.Common.{List, [], ◌∷◌, ◌++◌, Option, Some, None,
 use Rattle.std.specs.Prelude.{ℤ, pos, ◌+ℤ◌}
 use Rattle.std.proofs.lemmas.List.Elements.{All-nil, All-cons, All-append}
 use Rattle.ca_model.specs.declared.values.Event.{Event}
-use Rattle.ca_model.specs.declared.sums.Part.{Part}
-use Rattle.ca_model.specs.declared.sums.Part.TheVariants as part
-use Rattle.ca_model.specs.declared.sums.SumAct.{SumAct}
-use Rattle.ca_model.specs.declared.sums.SumAct.TheVariants as sum_act
+use Rattle.ca_form.specs.declared.parts.Part.{Part}
+use Rattle.ca_form.specs.declared.parts.Part.TheVariants as part
+use Rattle.ca_form.specs.declared.parts.SumAct.{SumAct}
+use Rattle.ca_form.specs.declared.parts.SumAct.TheVariants as sum_act
 use Rattle.ca_model.specs.Arith.{in32}
-use Rattle.ca_model.specs.FirstForm.{sum_of}
+use Rattle.ca_form.specs.FirstForm.{sum_of}
 use Rattle.ca_cmd.specs.Runs.{IsSimple, AreSimple, HasEnded}
 use Rattle.ca_cmd.proofs.SumRuns.{events_by}
 use Rattle.ca_cmd.specs.Running.{the_fault, part_value, part_events, sum_value, sum_events, Traced, going_on, act_event, cells_after, acts_run}

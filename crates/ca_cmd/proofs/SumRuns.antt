@@ -10,15 +10,15 @@ use Rattle.ca_model.specs.declared.tree.BinOp.TheVariants as op
 use Rattle.ca_model.specs.declared.tree.LoadKind.TheVariants as kind
 use Rattle.ca_model.specs.declared.tree.Item.{Item}
 use Rattle.ca_model.specs.declared.tree.Stmt.TheVariants as s
-use Rattle.ca_model.specs.declared.sums.Part.{Part}
-use Rattle.ca_model.specs.declared.sums.Part.TheVariants as part
+use Rattle.ca_form.specs.declared.parts.Part.{Part}
+use Rattle.ca_form.specs.declared.parts.Part.TheVariants as part
 use Rattle.ca_model.specs.Arith.{in32, operated}
 use Rattle.ca_model.specs.Asks.{Want, Reads, Wants, No_result, Asks, then, result}
 use Rattle.ca_model.specs.Items.{Done}
 use Rattle.ca_model.specs.Laws.{Stands}
 use Rattle.ca_model.specs.Frames.{Code, Frame, Left, Run, item_run, begun, first_weight, wanted, settled}
 use Rattle.ca_model.specs.Shared.{Shared, cell}
-use Rattle.ca_model.specs.FirstForm.{main_id, IsClosedPart}
+use Rattle.ca_form.specs.FirstForm.{main_id, IsClosedPart}
 use Rattle.ca_model.proofs.Silent.{stays}
 use Rattle.ca_model.proofs.Stepping.{at, begun_item}
 use Rattle.ca_cmd.specs.Running.{cell_of, held, part_value, part_events, sum_value, sum_events, Traced, before, failed, going_on, summed, the_fault}

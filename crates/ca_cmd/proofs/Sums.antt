@@ -3,13 +3,13 @@ use Rattle.std.proofs.Common.{rules, ◌≡◌, ℕ, ◌+◌, ◌<◌, List, [],
 use Rattle.std.specs.Prelude.{ℤ, pos, ◌+ℤ◌}
 use Rattle.std.proofs.lemmas.Int.{ints}
 use Rattle.ca_model.specs.declared.values.Event.{Event}
-use Rattle.ca_model.specs.declared.sums.Part.{Part}
+use Rattle.ca_form.specs.declared.parts.Part.{Part}
 use Rattle.ca_model.specs.Arith.{in32}
-use Rattle.ca_model.specs.declared.sums.SumAct.{SumAct}
-use Rattle.ca_model.specs.declared.sums.SumAct.TheVariants as sum_act
+use Rattle.ca_form.specs.declared.parts.SumAct.{SumAct}
+use Rattle.ca_form.specs.declared.parts.SumAct.TheVariants as sum_act
 use Rattle.std.proofs.Math.Seq.{take-append_seam}
 use Rattle.ca_model.specs.Machine.{by}
-use Rattle.ca_model.specs.FirstForm.{sum_of}
+use Rattle.ca_form.specs.FirstForm.{sum_of}
 use Rattle.ca_cmd.proofs.SumRuns.{value_by, events_by}
 use Rattle.ca_cmd.specs.Running.{part_value, part_events, sum_value, sum_events, Traced, before, going_on, act_event, act_output, cells_after, acts_run}
 

@@ -1,3 +1,5 @@
+pub mod FaultTexts
+pub mod Commands
 pub mod Runs
 pub mod Running
 pub mod Serving

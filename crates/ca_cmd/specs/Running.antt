@@ -8,14 +8,14 @@ use Rattle.ca_model.specs.declared.values.EventAct.{EventAct}
 use Rattle.ca_model.specs.declared.values.EventAct.TheVariants as event
 use Rattle.ca_model.specs.declared.values.Ending.{Ending}
 use Rattle.ca_model.specs.declared.values.Ending.TheVariants as ending
-use Rattle.ca_model.specs.declared.sums.Part.{Part}
-use Rattle.ca_model.specs.declared.sums.Part.TheVariants as part
-use Rattle.ca_model.specs.declared.sums.SumAct.{SumAct}
-use Rattle.ca_model.specs.declared.sums.SumAct.TheVariants as sum_act
+use Rattle.ca_form.specs.declared.parts.Part.{Part}
+use Rattle.ca_form.specs.declared.parts.Part.TheVariants as part
+use Rattle.ca_form.specs.declared.parts.SumAct.{SumAct}
+use Rattle.ca_form.specs.declared.parts.SumAct.TheVariants as sum_act
 use Rattle.ca_model.specs.Arith.{in32}
 use Rattle.ca_model.specs.Printed.{written}
 use Rattle.ca_model.specs.Machine.{by}
-use Rattle.ca_model.specs.FirstForm.{sum_of, format_text}
+use Rattle.ca_form.specs.FirstForm.{sum_of, format_text}
 
 -- the cell of a global
 abbrev pub cell_of : ℕ → Addr

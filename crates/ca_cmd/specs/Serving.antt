@@ -10,8 +10,8 @@ use Rattle.ca_model.specs.Private.{Thread}
 use Rattle.ca_model.specs.Machine.{State}
 use Rattle.ca_model.specs.Codes.{Typed}
 use Rattle.ca_model.specs.SourceRuns.{rules_of}
-use Rattle.ca_model.specs.Reports.{report}
-use Rattle.ca_model.specs.Commands.{source_limit, Load, Loaded, Exceeded, Unloaded, Cause, Unread, TooLong, NoTokens, NoProgram, NotBuilt, Ran, ending_status, out_text, err_text, memory_text, IsRunOfFile, Stands}
+use Rattle.ca_model.specs.Reports.{ending_status, report}
+use Rattle.ca_cmd.specs.Commands.{source_limit, Load, Loaded, Exceeded, Unloaded, Cause, Unread, TooLong, NoTokens, NoProgram, NotBuilt, Ran, out_text, err_text, memory_text, IsRunOfFile, Stands}
 use Rattle.ca_cmd.specs.Runs.{HasEnded}
 use Rattle.ca_io.specs.Outside.{IsTold}
 use Rattle.ca_io.specs.Ports.{PutPort, LoadPort, Wrote, WrotePart, HasFailed, HasFailedLoad}

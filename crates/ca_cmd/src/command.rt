@@ -8,8 +8,8 @@ ghost use Rattle.ca_grammar.specs.declared.faults.ReadFault.{ReadFault};
 ghost use Rattle.ca_grammar.specs.Texts.{AProgram};
 ghost use Rattle.ca_grammar.specs.Faults.{IsFault};
 ghost use Rattle.ca_model.specs.Codes.{Typed};
-ghost use Rattle.ca_model.specs.FirstForm.{StandsFor, AreFirst, IsFirstForm};
-ghost use Rattle.ca_model.specs.Commands.{source_limit, IsRunOf, Loaded, Exceeded, Misworded};
+ghost use Rattle.ca_form.specs.FirstForm.{StandsFor, AreFirst, IsFirstForm};
+ghost use Rattle.ca_cmd.specs.Commands.{source_limit, IsRunOf, Loaded, Exceeded, Misworded};
 ghost use Rattle.ca_io.specs.Ports.{put_port, load_port, HasFailed, HasFailedLoad};
 ghost use Rattle.ca_cmd.specs.Serving.{MayGive, Answers, Finishes, Faults, Refuses, MissesFile, IsCut, IsStatus, NoneFailed, Reports, ReportsPart};
 

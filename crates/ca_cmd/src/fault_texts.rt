@@ -1,6 +1,6 @@
 // The words of faults.
 ghost use Rattle.std.specs.Prelude.{◌≡◌};
-ghost use Rattle.ca_model.specs.FaultTexts.{lex_words, left_out_words, too_many_words, read_words};
+ghost use Rattle.ca_cmd.specs.FaultTexts.{lex_words, left_out_words, too_many_words, read_words};
 
 use ca_grammar::{Counted, LeftOut, ReadKind};
 use ca_tree::LexKind;

@@ -9,12 +9,11 @@ ghost use Rattle.ca_grammar.specs.declared.faults.ReadFault.{ReadFault};
 ghost use Rattle.ca_grammar.specs.Texts.{AProgram};
 ghost use Rattle.ca_grammar.specs.Faults.{IsFault};
 ghost use Rattle.ca_model.specs.Codes.{Typed};
-ghost use Rattle.ca_model.specs.FirstForm.{StandsFor, AreFirst, IsFirstForm, IsClosed, typed};
+ghost use Rattle.ca_form.specs.FirstForm.{StandsFor, AreFirst, IsFirstForm, IsClosed, typed};
 
-use ca_form::first_form;
+use ca_form::{Sums, first_form};
 use ca_grammar::ReadFault;
 use ca_lex::{LexFault, LexNo, tokens};
-use ca_model::Sums;
 use ca_read::{ReadNo, program};
 use ca_tree::{NoMemory, Token};
 use std::alloc::Global;

@@ -2,8 +2,8 @@
 ghost use Rattle.std.specs.Prelude.{◌≡◌, ◌⊎◌, [], ◌++◌, codes};
 ghost use Rattle.ca_tree.specs.declared.token.LexFault.{LexFault};
 ghost use Rattle.ca_grammar.specs.declared.faults.ReadFault.{ReadFault};
-ghost use Rattle.ca_model.specs.FaultTexts.{fault_at};
-ghost use Rattle.ca_model.specs.Commands.{Unread, TooLong, NoTokens, NoProgram, NotBuilt, err_text, message, memory_text};
+ghost use Rattle.ca_cmd.specs.FaultTexts.{fault_at};
+ghost use Rattle.ca_cmd.specs.Commands.{Unread, TooLong, NoTokens, NoProgram, NotBuilt, err_text, message, memory_text};
 ghost use Rattle.ca_io.specs.Ports.{put_port};
 ghost use Rattle.ca_cmd.specs.Serving.{Closes};
 

@@ -4,11 +4,12 @@ ghost use Rattle.ca_tree.specs.declared.text.Pos.{Pos};
 ghost use Rattle.ca_model.specs.declared.values.Value.TheVariants as v;
 ghost use Rattle.ca_model.specs.Machine.{by};
 ghost use Rattle.ca_model.specs.Printed.{written};
-ghost use Rattle.ca_model.specs.FirstForm.{typed, sum_of, format_text, IsClosed, IsClosedPart, IsClosedAct};
+ghost use Rattle.ca_form.specs.FirstForm.{typed, sum_of, format_text, IsClosed, IsClosedPart, IsClosedAct};
 ghost use Rattle.ca_cmd.specs.Runs.{IsRunOfSource, AreSimple, HasEnded, traced};
 ghost use Rattle.ca_cmd.specs.Running.{part_value, part_events, sum_value, sum_events, act_event, act_output, cells_after, acts_run};
 
-use ca_model::{Addr, Ending, Event, EventAct, FaultKind, Part, SumAct, Sums, Value};
+use ca_form::{Part, SumAct, Sums};
+use ca_model::{Addr, Ending, Event, EventAct, FaultKind, Value};
 use ca_tree::{Listed, NoMemory};
 use std::alloc::Global;
 

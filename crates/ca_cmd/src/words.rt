@@ -1,6 +1,6 @@
 // The words of a command.
 ghost use Rattle.std.specs.Prelude.{◌≡◌, ℕ, List, map, string_bytes, IfSome, IfNone, IsTrue, ◌↔◌};
-ghost use Rattle.ca_model.specs.Commands.{IsName, IsRunOf};
+ghost use Rattle.ca_cmd.specs.Commands.{IsName, IsRunOf};
 
 // A word that begins with `-` is no name.
 fn is_name(word: &str) -> bool

@@ -89,9 +89,6 @@ fits = record {
   acquires = λ i c. (first_lock, (subst (λ is. Contains is first_lock) (sym items_are) (0, omega arith, refl), in_one first_lock.id i c), refl);
 }
 
-site_number : ℕ → SiteId
-site_number k = record { 0 = k }
-
 pub is_plan : IsPlanOf program options plan
 is_plan = record {
   fits = fits;

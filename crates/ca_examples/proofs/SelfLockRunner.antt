@@ -10,13 +10,13 @@ use Rattle.ca_model.specs.declared.values.Ending.TheVariants as ending
 use Rattle.ca_model.specs.Asks.{Locks}
 use Rattle.ca_model.specs.Machine.{by, State, Step}
 use Rattle.ca_model.specs.Hardened.{Hardened, retry_site, may_retry}
-use Rattle.ca_model.specs.Opening.{CanStep}
+use Rattle.ca_model.specs.Opening.{CanStep, opening_shared}
 use Rattle.ca_model.specs.Waits.{WaitsAt}
 use Rattle.ca_model.specs.Schedules.{by_list}
-use Rattle.ca_model.specs.Runner.{IsChosen, IsTimeout, since_last, Comes, Moves, TimesOut, IsReady, IsEnabled, AreEnabled, RunsOn, stuck, goes_on, IsRunOf}
+use Rattle.ca_model.specs.Runner.{IsChosen, IsTimeout, since_last, IsLeastUnused, Comes, Moves, TimesOut, IsReady, IsEnabled, AreEnabled, RunsOn, stuck, goes_on, IsRunOf}
 use Rattle.ca_model.proofs.Law.{one_of}
 use Rattle.ca_model.proofs.Members.{in_none, in_one}
-use Rattle.ca_model.proofs.Entries.{EndedBelow, gives_at, lock_entry, retrying, the_entry}
+use Rattle.ca_model.proofs.Entries.{EndedBelow, least_from, gives_at, lock_entry, retrying, the_entry}
 use Rattle.ca_model.proofs.OneEntry.{entry_of, comes_as}
 use Rattle.ca_model.proofs.EnabledThreads.{no_step}
 use Rattle.ca_model.proofs.RunnerStates.{opening_reached}
@@ -43,9 +43,12 @@ EnabledNow = IsEnabled code 200000 10
 none_ended : (owners : Owners) → EndedBelow (shared owners)
 none_ended owners = (opening_reached program).ended refl
 
--- of the blocks those below a number were used, here none
+-- the least block that was never used
 abbrev used : ℕ
 used = (opening_reached program).count
+
+is_least : IsLeastUnused (opening_shared program).blocks used
+is_least = least_from (opening_shared program).blocks used (opening_reached program).used
 
 abbrev comes : {s new : State Hardened} {t : ℕ} {a : EventAct} → Step r s (by t a) new → IsChosen s.shared a → Comes code 200000 10 s t a new
 comes st c = record { step = st; chosen = c }
@@ -90,7 +93,7 @@ module _ (owners : Owners) (tried : List SiteId) (held : map.get owners 0 ≡ So
   only_retries : (a : EventAct) (new : State Hardened) → ComesNow (state owners (after_lock tried)) 0 a new → retrying (retry_site code (after_lock tried)) (gives_at (shared owners) 0 (after_lock tried).saved) ≡ Some a
   only_retries a new c =
       let is : after_lock tried ≡ c.step.before = one_of _ _ c.step.stands in
-      let comes = comes_as code 200000 10 (state owners (after_lock tried)) 0 used (opening_reached program).used (none_ended owners) a new c in
+      let comes = comes_as code 200000 10 (state owners (after_lock tried)) 0 used is_least (none_ended owners) a new c in
       let back = retrying (retry_site code (after_lock tried)) (gives_at (shared owners) 0 (after_lock tried).saved) in
       sym (ap (λ o. lock_entry m true o back) held)
       ∙ (sym (ap (λ w. the_entry (shared owners) 0 used (retry_site code (after_lock tried)) (gives_at (shared owners) 0 (after_lock tried).saved) w) (wants_at_second tried))
@@ -152,7 +155,7 @@ the_run =
 
 -- so no step is possible
 pub never_steps : CanStep r (state owners_5 (after_lock twice)) → ⊥
-never_steps = no_step code 200000 10 (state owners_5 (after_lock twice)) [] used (opening_reached program).used few (none_ended owners_5) refl none
+never_steps = no_step code 200000 10 (state owners_5 (after_lock twice)) [] used is_least few (none_ended owners_5) refl none
   where
     few : used < 2 ^ 32
     few = omega (arith, (opening_reached program).few)

@@ -5,17 +5,30 @@ use Rattle.ca_model.specs.declared.values.Value.TheVariants as v
 use Rattle.ca_model.specs.declared.values.EventAct.TheVariants as event
 use Rattle.ca_model.specs.declared.values.Ending.TheVariants as ending
 use Rattle.ca_model.specs.declared.values.FaultKind.TheVariants as fault
-use Rattle.ca_model.specs.Frames.{wanted}
+use Rattle.ca_model.specs.Frames.{Code, wanted}
 use Rattle.ca_model.specs.Private.{Thread, last_want}
 use Rattle.ca_model.specs.Shared.{Shared, IsDue, effect}
-use Rattle.ca_model.specs.Machine.{State, Run, started}
-use Rattle.ca_model.specs.Opening.{opening}
+use Rattle.ca_model.specs.Machine.{Rules, State, Run, started}
+use Rattle.ca_model.specs.Opening.{opening, opening_shared}
+use Rattle.ca_model.specs.Source.{source, plain}
 use Rattle.ca_model.specs.SourceRuns.{IsSourceRun}
-use Rattle.ca_examples.specs.Watch.{cell_0, program}
-use Rattle.ca_examples.proofs.WatchRuns.{m0, m1, in_watch, wants_read, fails, starts_main, read_zero, own_create, wanted_create, starts_watch, cell_null, first_is, pc, r, h0, h1, one}
+use Rattle.ca_examples.specs.Watch.{cell_0, program, early_list}
+use Rattle.ca_examples.proofs.WatchRuns.{m0, m1, in_watch, wants_read, fails, starts_main, read_zero, own_create, wanted_create, starts_watch, cell_null, first_is, hc}
 use Rattle.ca_examples.proofs.ByWant.{by_want, nobody_ended}
 use Rattle.ca_examples.proofs.Moves.{single, pair, second_moves, makes_second, Steps, no_more, ◌⟫◌, run_of}
-use Rattle.ca_examples.specs.Watch.{early_list}
+
+-- the source without a plan
+abbrev pc : Code
+pc = plain hc
+
+abbrev r : Rules Thread
+r = source hc
+
+abbrev h0 : Shared
+h0 = opening_shared program
+
+abbrev h1 : Shared
+h1 = effect h0 0 (event.Create 1)
 
 abbrev e2 : Shared
 e2 = effect h1 1 (event.Read cell_0 (v.Num (pos 0)))
@@ -29,8 +42,8 @@ before = in_watch [] ∷ []
 abbrev after : Thread
 after = in_watch (v.Num (pos 0) ∷ []) ∷ []
 
-opens : opening r program ≡ one h0 (m0 ∷ [])
-opens = ap (λ f. one h0 (f ∷ [])) (starts_main pc refl first_is (λ i. refl) refl)
+opens : opening r program ≡ single r h0 (m0 ∷ [])
+opens = ap (λ f. single r h0 (f ∷ [])) (starts_main pc refl first_is (λ i. refl) refl)
 
 makes_watch : started r (r.want (m0 ∷ [])) ≡ before ∷ []
 makes_watch = ap (started r) (wanted_create pc refl first_is (λ i. refl) refl) ∙ ap (λ f. (f ∷ []) ∷ []) (starts_watch pc refl first_is (λ i. refl) refl refl)

@@ -1,27 +1,30 @@
--- The example's plan is the plan of its source.
-use Rattle.std.proofs.Common.{arith, ◌≡◌, ℕ, zero, suc, Bool, true, false, List, [], ◌∷◌, ◌++◌, Some, None, refl, sym, ap, ◌∙◌, subst, inl, inr}
-use Rattle.std.specs.Prelude.{pos, Contains, nat_eq}
+-- The example's plan is the plan of its source, and the source knows its globals.
+use Rattle.std.proofs.Common.{arith, ◌≡◌, ℕ, zero, suc, Bool, true, false, List, [], ◌∷◌, Some, None, refl, sym, ap, ◌∙◌, subst, inl, inr}
+use Rattle.std.specs.Prelude.{ℤ, pos, ◌&&◌, Contains, nat_eq}
 use Rattle.std.specs.List.{list_any}
 use Rattle.ca_tree.specs.declared.numbers.SiteId.{SiteId}
 use Rattle.ca_model.specs.declared.tree.LoadKind.TheVariants as kind
 use Rattle.ca_model.specs.declared.tree.BinOp.TheVariants as op
+use Rattle.ca_model.specs.declared.tree.Exp.{Exp, out-Exp, map-Exp, fold_out-Exp}
 use Rattle.ca_model.specs.declared.tree.Exp.TheOpen.{Exp-F}
+use Rattle.ca_model.specs.declared.tree.Place.{Place, fold-roll-Place}
 use Rattle.ca_model.specs.declared.tree.Exp.TheVariants as e
 use Rattle.ca_model.specs.declared.tree.Item.{Item}
 use Rattle.ca_model.specs.declared.tree.Function.{Function}
-use Rattle.ca_model.specs.Sites.{items_in_all, all_items}
-use Rattle.ca_model.specs.Accesses.{An_assertion, At_site, Named_load, stores, exp_accesses, place_accesses, accesses, accesses_to, act_accesses, Site, sites_after, sites_in, all_sites, numbered}
+use Rattle.ca_model.specs.Sites.{all_items}
+use Rattle.ca_model.specs.Accesses.{An_assertion, Named_load, place_accesses, accesses_to, Site, sites_in, all_sites, numbered}
 use Rattle.ca_model.specs.Links.{block_first, block_links, at_close, first_item, links_of, Next}
 use Rattle.ca_model.specs.Destroying.{has_malloc}
 use Rattle.ca_model.specs.Paths.{BeginsThreads, Stop, GoesUp, Goes, OnPath, begins, goes}
 use Rattle.ca_model.specs.Hopeless.{IsHopeless}
-use Rattle.ca_model.specs.Plans.{IsSite, Fits, IsTaken, IsPlanOf, IsSound}
-use Rattle.ca_examples.specs.Erased.{item}
-use Rattle.ca_examples.specs.Watch.{ready, is_ready, watch, checks, gives_null, declares, creates, sets, joins, gives_zero, watch_function, main_function, functions, program, plan, options}
+use Rattle.ca_model.specs.Plans.{IsSite, Fits, IsTaken, IsPlanOf}
+use Rattle.ca_model.specs.KnownGlobals.{exp_within, place_within, within, within_place, act_within, KnowsItsGlobals}
+use Rattle.ca_examples.specs.Items.{item}
+use Rattle.ca_examples.specs.Watch.{t, ready, is_ready, watch, checks, gives_null, declares, creates, sets, joins, gives_zero, watch_function, main_function, functions, program, plan, options}
 use Rattle.ca_model.specs.declared.tree.Act.TheVariants as act
 use Rattle.ca_model.proofs.Law.{one_of}
-use Rattle.ca_model.proofs.Equations.{accesses_num, accesses_null, accesses_local, accesses_global, accesses_load, accesses_binary, accesses_plain, items_items, flow_items}
-use Rattle.ca_model.proofs.Members.{in_none, in_one, in_two, tested}
+use Rattle.ca_model.proofs.Equations.{accesses_num, accesses_null, accesses_local, accesses_global, accesses_load, accesses_binary, accesses_plain, items_item, flow_items}
+use Rattle.ca_model.proofs.Members.{in_none, in_cons, in_one, in_two, tested}
 
 -- items and links of the two bodies
 abbrev watch_items : List Item
@@ -33,10 +36,8 @@ main_items = declares ∷ creates ∷ sets ∷ joins ∷ gives_zero ∷ []
 abbrev nine : List Item
 nine = checks ∷ gives_null ∷ item 3 act.Close ∷ declares ∷ creates ∷ sets ∷ joins ∷ gives_zero ∷ item 9 act.Close ∷ []
 
-all_nine : all_items functions ≡ nine
-all_nine =
-    ap (λ xs. (xs ++ (item 3 act.Close ∷ [])) ++ ((items_in_all main_function.body ++ (item 9 act.Close ∷ [])) ++ [])) (items_items watch_items)
-    ∙ ap (λ xs. (watch_items ++ (item 3 act.Close ∷ [])) ++ ((xs ++ (item 9 act.Close ∷ [])) ++ [])) (items_items main_items)
+pub all_nine : all_items functions ≡ nine
+all_nine = simp items_item
 
 watch_first : first_item watch_function ≡ checks
 watch_first = ap (λ fs. block_first fs (at_close watch_function)) (flow_items watch_items)
@@ -87,26 +88,14 @@ site = record { item = checks; kind = An_assertion; earlier = Named_load ∷ [] 
 does_ready : accesses_to ready ≡ (false, [])
 does_ready = accesses_plain (e.Global (record { 0 = 0 })) 0 false ∙ ap (λ b. place_accesses (record { base = b; index = None; field = 0; through = false })) (accesses_global (record { 0 = 0 }))
 
-does_test : accesses is_ready ≡ Named_load ∷ []
-does_test =
-    accesses_binary op.Same (e.Load ready kind.Int) (e.Num (pos 1))
-    ∙ (ap (λ a. a ++ accesses (e.Num (pos 1))) (accesses_load ready kind.Int ∙ ap (λ p. exp_accesses (Exp-F.Load p kind.Int)) does_ready)
-    ∙ ap (λ b. (Named_load ∷ []) ++ b) (accesses_num (pos 1)))
+is_named : (accesses_to ready).0 ≡ false
+is_named = ap (λ p. p.0) does_ready
 
-sites_cons : (i : Item) (is : List Item) (xs ys : List Site) → sites_after i [] (act_accesses i.act) ≡ xs → sites_in is ≡ ys → sites_in (i ∷ is) ≡ xs ++ ys
-sites_cons i is xs ys p q = ap (λ zs. zs ++ sites_in is) p ∙ ap (λ zs. xs ++ zs) q
+does_nothing : (accesses_to ready).1 ≡ []
+does_nothing = ap (λ p. p.1) does_ready
 
 one_site : all_sites program ≡ site ∷ []
-one_site =
-    ap sites_in all_nine
-    ∙ sites_cons checks (gives_null ∷ item 3 act.Close ∷ declares ∷ creates ∷ sets ∷ joins ∷ gives_zero ∷ item 9 act.Close ∷ []) (site ∷ []) [] (ap (λ a. sites_after checks [] (a ++ (At_site An_assertion ∷ []))) does_test)
-    (sites_cons gives_null (item 3 act.Close ∷ declares ∷ creates ∷ sets ∷ joins ∷ gives_zero ∷ item 9 act.Close ∷ []) [] [] (ap (sites_after gives_null []) accesses_null)
-    (sites_cons (item 3 act.Close) (declares ∷ creates ∷ sets ∷ joins ∷ gives_zero ∷ item 9 act.Close ∷ []) [] [] refl
-    (sites_cons declares (creates ∷ sets ∷ joins ∷ gives_zero ∷ item 9 act.Close ∷ []) [] [] refl
-    (sites_cons creates (sets ∷ joins ∷ gives_zero ∷ item 9 act.Close ∷ []) [] [] (ap (sites_after creates []) accesses_null)
-    (sites_cons sets (joins ∷ gives_zero ∷ item 9 act.Close ∷ []) [] [] (ap (λ p. sites_after sets [] (p.1 ++ (accesses (e.Num (pos 1)) ++ stores p.0))) does_ready ∙ ap (λ a. sites_after sets [] (a ++ stores false)) (accesses_num (pos 1)))
-    (sites_cons joins (gives_zero ∷ item 9 act.Close ∷ []) [] [] (ap (sites_after joins []) (accesses_local _))
-    (sites_cons gives_zero (item 9 act.Close ∷ []) [] [] (ap (sites_after gives_zero []) (accesses_num (pos 0))) (sites_cons (item 9 act.Close) [] [] [] refl refl))))))))
+one_site = ap sites_in all_nine ∙ simp (accesses_num, accesses_null, accesses_local, accesses_load, accesses_binary, is_named, does_nothing)
 
 number_one : (m : ℕ) (x : Site) → numbered (site ∷ []) m ≡ Some x → (site ≡ x) × (m ≡ 1)
 number_one zero x h = absurd (cc)
@@ -175,12 +164,43 @@ is_plan = record {
   );
 }
 
--- and it is sound, by the assertion alone
-pub is_sound : IsSound program plan
-is_sound = record {
-  last = 0;
-  sets = λ k. checks ∷ [];
-  sites = λ x n c is. ((0, omega arith, ap (λ y. y.item) (which x n is).0), λ own. let no' : false ≡ true = ap (λ y. has_malloc y.item.act) (which x n is).0 ∙ own in absurd (cc));
-  back = λ k i j le c next. absurd (no_next j (subst (Next program j) (sym (in_one checks i c)) next));
-  up = λ k f le c first. inl (0, omega arith, ap (λ g. g.id) (sym (the_watch f c (sym (in_one checks (first_item f) first)))));
+-- the expressions of its items name the one global, which opens with 0
+module _ where
+  abbrev level : Exp-F Exp Place → Bool
+  level x = exp_within 1 (map-Exp Exp Place Bool Bool (within 1) (within_place 1) x)
+
+  within_out : (x : Exp) (l : Exp-F Exp Place) → out-Exp x ≡ l → within 1 x ≡ level l
+  within_out x l is = fold_out-Exp Bool Bool (exp_within 1) place_within x ∙ ap level is
+
+  null_in : within 1 e.Null ≡ true
+  null_in = within_out e.Null _ e.outs-Null
+
+  number_in : (n : ℤ) → within 1 (e.Num n) ≡ true
+  number_in n = within_out (e.Num n) _ (e.outs-Num n)
+
+  ready_in : within_place 1 ready ≡ true
+  ready_in = fold-roll-Place Bool Bool (exp_within 1) place_within _ ∙ ap (λ b. b && true) (within_out (e.Global (record { 0 = 0 })) _ (e.outs-Global (record { 0 = 0 })))
+
+  test_in : within 1 is_ready ≡ true
+  test_in =
+      within_out is_ready _ (e.outs-Binary op.Same (e.Load ready kind.Int) (e.Num (pos 1)))
+      ∙ (ap (λ b. b && within 1 (e.Num (pos 1))) (within_out (e.Load ready kind.Int) _ (e.outs-Load ready kind.Int) ∙ ready_in) ∙ number_in (pos 1))
+
+  abbrev AllIn : List Item → Type 0
+  AllIn [] = Unit {0}
+  AllIn (i ∷ is) = (act_within 1 i.act ≡ true) × AllIn is
+
+  all_in : AllIn nine
+  all_in =
+      let sets_one : act_within 1 sets.act ≡ true = ap (λ b. b && within 1 (e.Num (pos 1))) ready_in ∙ number_in (pos 1) in
+      (test_in, (null_in, (refl, (refl, (null_in, (sets_one, (within_out (e.Local t) _ (e.outs-Local t), (number_in (pos 0), (refl, tt)))))))))
+
+  one_in : (is : List Item) (i : Item) → AllIn is → Contains is i → act_within 1 i.act ≡ true
+  one_in [] i all c = absurd (in_none i c)
+  one_in (j ∷ is) i all c = elim (in_cons j is i c) [ inl same ↦ ap (λ k. act_within 1 k.act) (sym same) ∙ all.0 | inr more ↦ one_in is i all.1 more ]
+
+pub knows : KnowsItsGlobals program
+knows = record {
+  names = λ i c. one_in nine i all_in (subst (λ is. Contains is i) all_nine c);
+  starts = λ g c. (pos 0, ap (λ h. h.first) (sym (in_one _ g c)));
 }

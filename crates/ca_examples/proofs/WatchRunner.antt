@@ -19,8 +19,9 @@ use Rattle.ca_model.specs.Runner.{IsChosen, IsTimeout, Comes, Moves, IsEnabled, 
 use Rattle.ca_examples.specs.Watch.{program, plan, cell_0, hardened_list, schedule}
 use Rattle.ca_model.proofs.Law.{one_of}
 use Rattle.ca_model.proofs.Members.{in_one, in_two}
+use Rattle.ca_examples.proofs.Moves.{pair, first_moves, second_moves}
 use Rattle.ca_examples.proofs.ByWant.{hardened_by_want, nobody_ended, one_ended}
-use Rattle.ca_examples.proofs.WatchRuns.{hc, k, site_1, g1, g5, g6, g7, g8, a0, a1, a2, a3, b0, b1, b2, b3, b4, b5, pair, s0, s1, s2, s3, s4, s6, s7, s8, s9, step_1, step_2, step_3, step_4, step_5, step_6, step_7, step_8, step_9, opens, m2, wants_join, wanted_failing, keeps_write, keeps_zero, in_watch, with_saved, first_is, cell_null}
+use Rattle.ca_examples.proofs.WatchRuns.{hc, k, site_1, g1, g4, g5, g6, g7, g8, a0, a1, a2, a3, b0, b1, b2, b3, b4, b5, s0, s1, s2, s3, s4, s6, s7, s8, s9, step_1, step_2, step_3, step_4, step_5, step_6, step_7, step_8, step_9, opens, m2, wants_join, wanted_failing, keeps_write, keeps_zero, in_watch, with_saved, first_is, cell_null}
 
 -- whatever way a thread is enabled, a step of it is possible
 some_step : (s : State Hardened) (past : List Event) (t : ℕ) → IsEnabled hc 200000 10 s past t → (a : EventAct) × (new : State Hardened) × Step k s (by t a) new
@@ -29,7 +30,7 @@ some_step s past t (inl (inr ((a, new, c, w), waited))) = (a, new, c.step)
 some_step s past t (inr (alone, (a, new, c, w))) = (a, new, c.step)
 
 -- two threads are there
-one_of_two : (g : Shared) (x y : Hardened) (t : ℕ) (z : Hardened) → slice_get (pair g x y).threads t ≡ Some z → (t ≡ 0) ⊎ (t ≡ 1)
+one_of_two : (g : Shared) (x y : Hardened) (t : ℕ) (z : Hardened) → slice_get (pair k g x y).threads t ≡ Some z → (t ≡ 0) ⊎ (t ≡ 1)
 one_of_two g x y zero z h = inl refl
 one_of_two g x y (suc zero) z h = inr refl
 one_of_two g x y (suc (suc t)) z h = absurd (cc)
@@ -42,32 +43,32 @@ ascend_two zero lt = omega arith
 ascend_two (suc j) lt = absurd (let never : ⊥ = omega (arith, lt) in never)
 
 -- both threads move
-both : (g : Shared) (x y : Hardened) (past : List Event) → Moves hc 200000 10 (pair g x y) 0 → Moves hc 200000 10 (pair g x y) 1 → AreEnabled hc 200000 10 (pair g x y) past (0 ∷ 1 ∷ [])
+both : (g : Shared) (x y : Hardened) (past : List Event) → Moves hc 200000 10 (pair k g x y) 0 → Moves hc 200000 10 (pair k g x y) 1 → AreEnabled hc 200000 10 (pair k g x y) past (0 ∷ 1 ∷ [])
 both g x y past p q = record {
   ascend = ascend_two;
   exactly = λ t. (
     (λ c. elim (in_two 0 1 t c) [
-      | inl is ↦ subst (IsEnabled hc 200000 10 (pair g x y) past) is (inl (inl p))
-      | inr is ↦ subst (IsEnabled hc 200000 10 (pair g x y) past) is (inl (inl q))
+      | inl is ↦ subst (IsEnabled hc 200000 10 (pair k g x y) past) is (inl (inl p))
+      | inr is ↦ subst (IsEnabled hc 200000 10 (pair k g x y) past) is (inl (inl q))
     ]),
     (λ e.
-        let st = some_step (pair g x y) past t e in
+        let st = some_step (pair k g x y) past t e in
         elim (one_of_two g x y t st.2.before st.2.stands) [ inl is ↦ (0, omega arith, sym is) | inr is ↦ (1, omega arith, sym is) ]),
   );
 }
 
 -- one of them alone moves
-alone : (g : Shared) (x y : Hardened) (past : List Event) (n m : ℕ) → ((t : ℕ) → (t ≡ 0) ⊎ (t ≡ 1) → (t ≡ n) ⊎ (t ≡ m)) → Moves hc 200000 10 (pair g x y) n
-    → ((a : EventAct) (new : State Hardened) → Step k (pair g x y) (by m a) new → ⊥) → AreEnabled hc 200000 10 (pair g x y) past (n ∷ [])
+alone : (g : Shared) (x y : Hardened) (past : List Event) (n m : ℕ) → ((t : ℕ) → (t ≡ 0) ⊎ (t ≡ 1) → (t ≡ n) ⊎ (t ≡ m)) → Moves hc 200000 10 (pair k g x y) n
+    → ((a : EventAct) (new : State Hardened) → Step k (pair k g x y) (by m a) new → ⊥) → AreEnabled hc 200000 10 (pair k g x y) past (n ∷ [])
 alone g x y past n m which p stuck = record {
   ascend = ascend_one n;
   exactly = λ t. (
-    (λ c. subst (IsEnabled hc 200000 10 (pair g x y) past) (in_one n t c) (inl (inl p))),
+    (λ c. subst (IsEnabled hc 200000 10 (pair k g x y) past) (in_one n t c) (inl (inl p))),
     (λ e.
-        let st = some_step (pair g x y) past t e in
+        let st = some_step (pair k g x y) past t e in
         elim (which t (one_of_two g x y t st.2.before st.2.stands)) [
           | inl is ↦ (0, omega arith, sym is)
-          | inr is ↦ absurd (stuck st.0 st.1 (subst (λ u. Step k (pair g x y) (by u st.0) st.1) is st.2))
+          | inr is ↦ absurd (stuck st.0 st.1 (subst (λ u. Step k (pair k g x y) (by u st.0) st.1) is st.2))
         ]),
   );
 }
@@ -95,7 +96,7 @@ plain_due : (g : Shared) (h : Hardened) (a : EventAct) (x : Hardened) → by_joi
 plain_due g h (event.Retry s gs) x e due = cc
 plain_due g h _ x e due = due
 
-waits_at_join : (g : Shared) (b : Hardened) (a : EventAct) (new : State Hardened) → ((u : ℕ) → set.contains g.ended u ≡ false) → 1 < g.threads → Step k (pair g a2 b) (by 0 a) new → ⊥
+waits_at_join : (g : Shared) (b : Hardened) (a : EventAct) (new : State Hardened) → ((u : ℕ) → set.contains g.ended u ≡ false) → 1 < g.threads → Step k (pair k g a2 b) (by 0 a) new → ⊥
 waits_at_join g b a new none more st =
     let is : a2 ≡ st.before = one_of _ _ st.stands in
     let own : by_join a ≡ Some st.after = sym (hardened_by_want hc m2 _ None a (wants_join hc refl first_is (λ i. refl) refl)) ∙ (ap (λ h. (hardened hc).advance h a) is ∙ st.own) in
@@ -103,7 +104,7 @@ waits_at_join g b a new none more st =
     blocked g a st.after own none more st.legal.allowed (subst (λ w. IsDue g 0 w a) wanted_join (plain_due g a2 a st.after own due))
 
 -- a thread that has ended
-ended_rests : (g : Shared) (x y : Hardened) (a : EventAct) (new : State Hardened) → set.contains g.ended 1 ≡ true → Step k (pair g x y) (by 1 a) new → ⊥
+ended_rests : (g : Shared) (x y : Hardened) (a : EventAct) (new : State Hardened) → set.contains g.ended 1 ≡ true → Step k (pair k g x y) (by 1 a) new → ⊥
 ended_rests g x y a new is st = let no' : true ≡ false = sym is ∙ st.legal.going in cc
 
 zero_first : (t : ℕ) → (t ≡ 0) ⊎ (t ≡ 1) → (t ≡ 0) ⊎ (t ≡ 1)
@@ -113,50 +114,20 @@ one_first : (t : ℕ) → (t ≡ 0) ⊎ (t ≡ 1) → (t ≡ 1) ⊎ (t ≡ 0)
 one_first t (inl e) = inr e
 one_first t (inr e) = inl e
 
+abbrev comes : {s new : State Hardened} {t : ℕ} {a : EventAct} → Step k s (by t a) new → IsChosen s.shared a → Comes hc 200000 10 s t a new
+comes st c = record { step = st; chosen = c }
+
 -- while `watch` tries, `main` may write
-may_write : (b : Hardened) → Moves hc 200000 10 (pair g1 a1 b) 0
-may_write b = (
-  event.Write cell_0 (v.Num (pos 1)),
-  pair (effect g1 0 (event.Write cell_0 (v.Num (pos 1)))) a2 b,
-  record {
-    step = record {
-      before = a1;
-      after = a2;
-      stands = refl;
-      own = keeps_write hc refl first_is (λ i. refl) refl;
-      legal = record { run = refl; there = omega arith; going = nobody_ended 0; allowed = ap is_some cell_null };
-      due = tt;
-      shared = refl;
-      threads = refl;
-    };
-    chosen = tt;
-  },
-  λ w. w,
-)
+may_write : (b : Hardened) → Moves hc 200000 10 (pair k g1 a1 b) 0
+may_write b =
+    let st = first_moves k g1 (effect g1 0 (event.Write cell_0 (v.Num (pos 1)))) a1 a2 b (event.Write cell_0 (v.Num (pos 1))) (keeps_write hc refl first_is (λ i. refl) refl) (record { run = refl; there = omega arith; going = nobody_ended 0; allowed = ap is_some cell_null }) tt refl refl in
+    (event.Write cell_0 (v.Num (pos 1)), _, comes st tt, λ w. w)
 
 -- and `watch` reads 0 as long as it doesn't
 may_read : Moves hc 200000 10 s4 1
-may_read = (
-  event.Read cell_0 (v.Num (pos 0)),
-  pair (effect g1 1 (event.Read cell_0 (v.Num (pos 0)))) a1 (with_saved (site_1 ∷ []) (in_watch (v.Num (pos 0) ∷ []) ∷ [])),
-  record {
-    step = record {
-      before = b3;
-      after = with_saved (site_1 ∷ []) (in_watch (v.Num (pos 0) ∷ []) ∷ []);
-      stands = refl;
-      own = keeps_zero hc refl first_is (λ i. refl) refl (site_1 ∷ []);
-      legal = record { run = refl; there = omega arith; going = nobody_ended 1; allowed = cell_null };
-      due = tt;
-      shared = refl;
-      threads = refl;
-    };
-    chosen = tt;
-  },
-  λ w. w,
-)
-
-abbrev comes : {s new : State Hardened} {t : ℕ} {a : EventAct} → Step k s (by t a) new → IsChosen s.shared a → Comes hc 200000 10 s t a new
-comes st c = record { step = st; chosen = c }
+may_read =
+    let st = second_moves k g4 (effect g4 1 (event.Read cell_0 (v.Num (pos 0)))) a1 b3 (with_saved (site_1 ∷ []) (in_watch (v.Num (pos 0) ∷ []) ∷ [])) (event.Read cell_0 (v.Num (pos 0))) (keeps_zero hc refl first_is (λ i. refl) refl (site_1 ∷ [])) (record { run = refl; there = omega arith; going = nobody_ended 1; allowed = cell_null }) tt refl refl in
+    (event.Read cell_0 (v.Num (pos 0)), _, comes st tt, λ w. w)
 
 no_timeout : (st : Step k s3 (by 1 (event.Retry site_1 [])) s4) → IsTimeout (event.Retry site_1 []) ((hardened hc).want st.before) → ⊥
 no_timeout st w =

@@ -1,4 +1,4 @@
--- The example's list with a save and a retry is a hardened run, and its projection is a source run.
+-- The steps of the example's list with a save and a retry.
 use Rattle.std.proofs.Common.{rules, arith, ◌≡◌, ℕ, ◌+◌, true, false, List, [], ◌∷◌, ◌++◌, Option, Some, None, refl, sym, ap, ◌∙◌, subst}
 use Rattle.std.specs.Prelude.{pos, is_some, slice_get}
 use Rattle.std.specs.FinMap as map
@@ -22,17 +22,17 @@ use Rattle.ca_model.specs.Frames as frames
 use Rattle.ca_model.specs.Frames.{Code, Frame, Left, Enter, Begin, item_run, begun, wanted, settled, answered, frame_of, entered, mark}
 use Rattle.ca_model.specs.Private.{Thread, advance, stand, last_want}
 use Rattle.ca_model.specs.Shared.{Shared, Block, Blocks, effect, cell, cell_at, if_live, insert_if, put_cell}
-use Rattle.ca_model.specs.Machine.{by, Rules, State, Step, Run, started, threads_after}
+use Rattle.ca_model.specs.Machine.{by, Rules, State, Step, started}
 use Rattle.ca_model.specs.Projection.{projection}
 use Rattle.ca_model.specs.Sites.{items_in_all, all_items, first_from}
 use Rattle.ca_model.specs.declared.tree.Item.{Item}
 use Rattle.ca_model.specs.declared.tree.Function.{Function}
-use Rattle.ca_model.specs.Source.{source, plain}
 use Rattle.ca_model.specs.Hardened.{Hardened, Saved, hardened, hardened_advance, fresh, FailsNow, HardenedDue}
 use Rattle.ca_model.specs.Codes.{code_of}
 use Rattle.ca_model.specs.Opening.{opening, opening_shared}
-use Rattle.ca_examples.specs.Erased.{item, EndsAsItsProjection}
+use Rattle.ca_examples.specs.Items.{item}
 use Rattle.ca_examples.specs.Watch.{ready, is_ready, watch, main, t, checks, gives_null, declares, creates, sets, joins, gives_zero, functions, program, plan, cell_0, hardened_list, source_list}
+use Rattle.ca_examples.proofs.Moves.{single, pair, first_moves, second_moves, makes_second}
 use Rattle.ca_examples.proofs.ByWant.{set_by, join_by, return_by, by_want, hardened_by_want, nobody_ended, one_ended, zero_goes}
 use Rattle.ca_model.proofs.Chains.{then_then}
 use Rattle.ca_model.proofs.Equations.{part_num, part_null, part_local, part_global, part_load, part_binary, spot_plain, items_item}
@@ -158,24 +158,9 @@ module _ (code : Code) (fns : code.functions ≡ functions) (first : code.first_
   pub read_one : answered code (in_watch []) (v.Num (pos 1)) ≡ w3
   read_one = passes code watch checks (null ∷ []) (v.Num (pos 1) ∷ []) (null ∷ []) w3.left true (none _) (checks_by (null ∷ []) (v.Num (pos 1) ∷ [])) ∙ waits code w3 _ wants_null
 
-  -- an entry by what the frame wants
+  -- the create, by what the frame wants
   pub own_create : advance code (m0 ∷ []) (event.Create 1) ≡ Some (m1 ∷ [])
   own_create = by_want code m0 _ (event.Create 1) wants_create ∙ ap (λ f. Some (f ∷ [])) created_one
-
-  own_write : advance code (m1 ∷ []) (event.Write cell_0 (v.Num (pos 1))) ≡ Some (m2 ∷ [])
-  own_write = by_want code m1 _ (event.Write cell_0 (v.Num (pos 1))) wants_write ∙ ap (λ f. Some (f ∷ [])) wrote
-
-  own_join : advance code (m2 ∷ []) (event.Join 1) ≡ Some (m3 ∷ [])
-  own_join = by_want code m2 _ (event.Join 1) wants_join ∙ ap (λ f. Some (f ∷ [])) joined
-
-  own_end : advance code (m3 ∷ []) event.End ≡ Some []
-  own_end = by_want code m3 _ event.End wants_zero
-
-  own_read : advance code (in_watch [] ∷ []) (event.Read cell_0 (v.Num (pos 1))) ≡ Some (w3 ∷ [])
-  own_read = by_want code (in_watch []) _ (event.Read cell_0 (v.Num (pos 1))) wants_read ∙ ap (λ f. Some (f ∷ [])) read_one
-
-  own_return : advance code (w3 ∷ []) event.End ≡ Some []
-  own_return = by_want code w3 _ event.End wants_null
 
   pub wanted_create : (stand code (m0 ∷ [])).want ≡ Creates watch null
   wanted_create = ap (λ g. last_want (wanted g) []) wants_create
@@ -269,128 +254,6 @@ first_is = ap (λ xs. first_from 0 (((xs ++ of_watch) ++ (item 3 act.Close ∷ [
     rest [] = []
     rest (f ∷ fs) = fs
 
--- the source's run
-module _ where
-  abbrev pub pc : Code
-  pc = plain hc
-
-  abbrev pub r : Rules Thread
-  r = source hc
-
-  abbrev pub h0 : Shared
-  h0 = opening_shared program
-
-  abbrev pub h1 : Shared
-  h1 = effect h0 0 (event.Create 1)
-
-  abbrev h2 : Shared
-  h2 = effect h1 0 (event.Write cell_0 (v.Num (pos 1)))
-
-  abbrev h3 : Shared
-  h3 = effect h2 1 (event.Read cell_0 (v.Num (pos 1)))
-
-  abbrev h4 : Shared
-  h4 = effect h3 1 event.End
-
-  abbrev h5 : Shared
-  h5 = effect h4 0 (event.Join 1)
-
-  abbrev h6 : Shared
-  h6 = effect h5 0 event.End
-
-  abbrev pub one : Shared → Thread → State Thread
-  one h x = record { shared = h; threads = x ∷ [] }
-
-  abbrev two : Shared → Thread → Thread → State Thread
-  two h x y = record { shared = h; threads = x ∷ y ∷ [] }
-
-  pub source_run : (new : State Thread) × Run r (opening r program) source_list new
-  source_run =
-      let opens : opening r program ≡ one h0 (m0 ∷ []) = ap (λ f. one h0 (f ∷ [])) (starts_main pc refl first_is (λ i. refl) refl) in
-      let made : (m1 ∷ []) ∷ (in_watch [] ∷ []) ∷ [] ≡ threads_after r ((m0 ∷ []) ∷ []) 0 (r.want (m0 ∷ [])) (event.Create 1) (m1 ∷ []) =
-      sym (ap (λ w. (m1 ∷ []) ∷ started r w) (wanted_create pc refl first_is (λ i. refl) refl) ∙ ap (λ f. (m1 ∷ []) ∷ (f ∷ []) ∷ []) (starts_watch pc refl first_is (λ i. refl) refl refl)) in (
-        two h6 [] [],
-        subst (λ o. Run r o source_list (two h6 [] [])) (sym opens) (
-          two h1 (m1 ∷ []) (in_watch [] ∷ []),
-          record {
-            before = m0 ∷ [];
-            after = m1 ∷ [];
-            stands = refl;
-            own = own_create pc refl first_is (λ i. refl) refl;
-            legal = record { run = refl; there = omega arith; going = nobody_ended 0; allowed = (refl, omega arith) };
-            due = tt;
-            shared = refl;
-            threads = made;
-          },
-          (
-            two h2 (m2 ∷ []) (in_watch [] ∷ []),
-            record {
-              before = m1 ∷ [];
-              after = m2 ∷ [];
-              stands = refl;
-              own = own_write pc refl first_is (λ i. refl) refl;
-              legal = record { run = refl; there = omega arith; going = nobody_ended 0; allowed = ap is_some cell_null };
-              due = tt;
-              shared = refl;
-              threads = refl;
-            },
-            (
-              two h3 (m2 ∷ []) (w3 ∷ []),
-              record {
-                before = in_watch [] ∷ [];
-                after = w3 ∷ [];
-                stands = refl;
-                own = own_read pc refl first_is (λ i. refl) refl;
-                legal = record { run = refl; there = omega arith; going = nobody_ended 1; allowed = cell_one };
-                due = tt;
-                shared = refl;
-                threads = refl;
-              },
-              (
-                two h4 (m2 ∷ []) [],
-                record {
-                  before = w3 ∷ [];
-                  after = [];
-                  stands = refl;
-                  own = own_return pc refl first_is (λ i. refl) refl;
-                  legal = record { run = refl; there = omega arith; going = nobody_ended 1; allowed = tt };
-                  due = tt;
-                  shared = refl;
-                  threads = refl;
-                },
-                (
-                  two h5 (m3 ∷ []) [],
-                  record {
-                    before = m2 ∷ [];
-                    after = m3 ∷ [];
-                    stands = refl;
-                    own = own_join pc refl first_is (λ i. refl) refl;
-                    legal = record { run = refl; there = omega arith; going = zero_goes; allowed = one_ended };
-                    due = tt;
-                    shared = refl;
-                    threads = refl;
-                  },
-                  (
-                    two h6 [] [],
-                    record {
-                      before = m3 ∷ [];
-                      after = [];
-                      stands = refl;
-                      own = own_end pc refl first_is (λ i. refl) refl;
-                      legal = record { run = refl; there = omega arith; going = zero_goes; allowed = tt };
-                      due = tt;
-                      shared = refl;
-                      threads = refl;
-                    },
-                    refl,
-                  ),
-                ),
-              ),
-            ),
-          ),
-        ),
-      )
-
 pub projects : projection hardened_list ≡ source_list
 projects = refl
 
@@ -471,9 +334,6 @@ module _ where
   abbrev pub b5 : Hardened
   b5 = with_saved (site_1 ∷ []) []
 
-  abbrev pub pair : Shared → Hardened → Hardened → State Hardened
-  pair h x y = record { shared = h; threads = x ∷ y ∷ [] }
-
   retries : hardened_advance hc b2 (event.Retry site_1 []) ≡ Some b3
   retries = hardened_by_want hc (in_watch (v.Num (pos 0) ∷ [])) _ b2.saved (event.Retry site_1 []) (fails hc refl first_is (λ i. refl) refl)
 
@@ -481,161 +341,64 @@ module _ where
   fails_now = (subst (FailsNow g3 1) (sym (wanted_failing hc refl first_is (λ i. refl) refl)) tt, λ n d lt. absurd (let no : ⊥ = omega (arith, lt) in no))
 
   abbrev pub s0 : State Hardened
-  s0 = record { shared = g0; threads = a0 ∷ [] }
+  s0 = single k g0 a0
 
   abbrev pub s1 : State Hardened
-  s1 = pair g1 a1 b0
+  s1 = pair k g1 a1 b0
 
   abbrev pub s2 : State Hardened
-  s2 = pair g2 a1 b1
+  s2 = pair k g2 a1 b1
 
   abbrev pub s3 : State Hardened
-  s3 = pair g3 a1 b2
+  s3 = pair k g3 a1 b2
 
   abbrev pub s4 : State Hardened
-  s4 = pair g4 a1 b3
+  s4 = pair k g4 a1 b3
 
   abbrev pub s5 : State Hardened
-  s5 = pair g5 a2 b3
+  s5 = pair k g5 a2 b3
 
   abbrev pub s6 : State Hardened
-  s6 = pair g6 a2 b4
+  s6 = pair k g6 a2 b4
 
   abbrev pub s7 : State Hardened
-  s7 = pair g7 a2 b5
+  s7 = pair k g7 a2 b5
 
   abbrev pub s8 : State Hardened
-  s8 = pair g8 a3 b5
+  s8 = pair k g8 a3 b5
 
   abbrev pub s9 : State Hardened
-  s9 = pair g9 a4 b5
+  s9 = pair k g9 a4 b5
 
-  made : a1 ∷ b0 ∷ [] ≡ threads_after k (a0 ∷ []) 0 (k.want a0) (event.Create 1) a1
-  made =
-      sym (ap (λ w. a1 ∷ started k w) (wanted_create hc refl first_is (λ i. refl) refl) ∙ ap (λ f. a1 ∷ bare (f ∷ []) ∷ []) (starts_at_entry hc refl first_is (λ i. refl) refl refl))
+  makes_watch : started k (k.want a0) ≡ b0 ∷ []
+  makes_watch = ap (started k) (wanted_create hc refl first_is (λ i. refl) refl) ∙ ap (λ f. bare (f ∷ []) ∷ []) (starts_at_entry hc refl first_is (λ i. refl) refl refl)
 
   pub step_1 : Step k s0 (by 0 (event.Create 1)) s1
-  step_1 = record {
-    before = a0;
-    after = a1;
-    stands = refl;
-    own = keeps_create hc refl first_is (λ i. refl) refl;
-    legal = record { run = refl; there = omega arith; going = nobody_ended 0; allowed = (refl, omega arith) };
-    due = tt;
-    shared = refl;
-    threads = made;
-  }
+  step_1 = makes_second k g0 g1 a0 a1 b0 (keeps_create hc refl first_is (λ i. refl) refl) (record { run = refl; there = omega arith; going = nobody_ended 0; allowed = (refl, omega arith) }) tt refl makes_watch
 
   pub step_2 : Step k s1 (by 1 event.Save) s2
-  step_2 = record {
-    before = b0;
-    after = b1;
-    stands = refl;
-    own = makes_save hc refl first_is (λ i. refl) refl refl;
-    legal = record { run = refl; there = omega arith; going = nobody_ended 1; allowed = tt };
-    due = tt;
-    shared = refl;
-    threads = refl;
-  }
+  step_2 = second_moves k g1 g2 a1 b0 b1 event.Save (makes_save hc refl first_is (λ i. refl) refl refl) (record { run = refl; there = omega arith; going = nobody_ended 1; allowed = tt }) tt refl refl
 
   pub step_3 : Step k s2 (by 1 (event.Read cell_0 (v.Num (pos 0)))) s3
-  step_3 = record {
-    before = b1;
-    after = b2;
-    stands = refl;
-    own = keeps_zero hc refl first_is (λ i. refl) refl [];
-    legal = record { run = refl; there = omega arith; going = nobody_ended 1; allowed = cell_null };
-    due = tt;
-    shared = refl;
-    threads = refl;
-  }
+  step_3 = second_moves k g2 g3 a1 b1 b2 (event.Read cell_0 (v.Num (pos 0))) (keeps_zero hc refl first_is (λ i. refl) refl []) (record { run = refl; there = omega arith; going = nobody_ended 1; allowed = cell_null }) tt refl refl
 
   pub step_4 : Step k s3 (by 1 (event.Retry site_1 [])) s4
-  step_4 = record {
-    before = b2;
-    after = b3;
-    stands = refl;
-    own = retries;
-    legal = record { run = refl; there = omega arith; going = nobody_ended 1; allowed = tt };
-    due = fails_now;
-    shared = refl;
-    threads = refl;
-  }
+  step_4 = second_moves k g3 g4 a1 b2 b3 (event.Retry site_1 []) retries (record { run = refl; there = omega arith; going = nobody_ended 1; allowed = tt }) fails_now refl refl
 
   pub step_5 : Step k s4 (by 0 (event.Write cell_0 (v.Num (pos 1)))) s5
-  step_5 = record {
-    before = a1;
-    after = a2;
-    stands = refl;
-    own = keeps_write hc refl first_is (λ i. refl) refl;
-    legal = record { run = refl; there = omega arith; going = nobody_ended 0; allowed = ap is_some cell_null };
-    due = tt;
-    shared = refl;
-    threads = refl;
-  }
+  step_5 = first_moves k g4 g5 a1 a2 b3 (event.Write cell_0 (v.Num (pos 1))) (keeps_write hc refl first_is (λ i. refl) refl) (record { run = refl; there = omega arith; going = nobody_ended 0; allowed = ap is_some cell_null }) tt refl refl
 
   pub step_6 : Step k s5 (by 1 (event.Read cell_0 (v.Num (pos 1)))) s6
-  step_6 = record {
-    before = b3;
-    after = b4;
-    stands = refl;
-    own = keeps_one hc refl first_is (λ i. refl) refl (site_1 ∷ []);
-    legal = record { run = refl; there = omega arith; going = nobody_ended 1; allowed = cell_one };
-    due = tt;
-    shared = refl;
-    threads = refl;
-  }
+  step_6 = second_moves k g5 g6 a2 b3 b4 (event.Read cell_0 (v.Num (pos 1))) (keeps_one hc refl first_is (λ i. refl) refl (site_1 ∷ [])) (record { run = refl; there = omega arith; going = nobody_ended 1; allowed = cell_one }) tt refl refl
 
   pub step_7 : Step k s6 (by 1 event.End) s7
-  step_7 = record {
-    before = b4;
-    after = b5;
-    stands = refl;
-    own = keeps_return hc refl first_is (λ i. refl) refl (site_1 ∷ []);
-    legal = record { run = refl; there = omega arith; going = nobody_ended 1; allowed = tt };
-    due = tt;
-    shared = refl;
-    threads = refl;
-  }
+  step_7 = second_moves k g6 g7 a2 b4 b5 event.End (keeps_return hc refl first_is (λ i. refl) refl (site_1 ∷ [])) (record { run = refl; there = omega arith; going = nobody_ended 1; allowed = tt }) tt refl refl
 
   pub step_8 : Step k s7 (by 0 (event.Join 1)) s8
-  step_8 = record {
-    before = a2;
-    after = a3;
-    stands = refl;
-    own = keeps_join hc refl first_is (λ i. refl) refl;
-    legal = record { run = refl; there = omega arith; going = zero_goes; allowed = one_ended };
-    due = tt;
-    shared = refl;
-    threads = refl;
-  }
+  step_8 = first_moves k g7 g8 a2 a3 b5 (event.Join 1) (keeps_join hc refl first_is (λ i. refl) refl) (record { run = refl; there = omega arith; going = zero_goes; allowed = one_ended }) tt refl refl
 
   pub step_9 : Step k s8 (by 0 event.End) s9
-  step_9 = record {
-    before = a3;
-    after = a4;
-    stands = refl;
-    own = keeps_end hc refl first_is (λ i. refl) refl;
-    legal = record { run = refl; there = omega arith; going = zero_goes; allowed = tt };
-    due = tt;
-    shared = refl;
-    threads = refl;
-  }
+  step_9 = first_moves k g8 g9 a3 a4 b5 event.End (keeps_end hc refl first_is (λ i. refl) refl) (record { run = refl; there = omega arith; going = zero_goes; allowed = tt }) tt refl refl
 
   pub opens : opening k program ≡ s0
   opens = ap (λ f. record { shared = g0; threads = bare (f ∷ []) ∷ [] }) (starts_main hc refl first_is (λ i. refl) refl)
-
-  pub hardened_run : (new : State Hardened) × Run k (opening k program) hardened_list new
-  hardened_run = (s9, subst (λ o. Run k o hardened_list s9) (sym opens) (s1, step_1, (s2, step_2, (s3, step_3, (s4, step_4, (s5, step_5, (s6, step_6, (s7, step_7, (s8, step_8, (s9, step_9, refl))))))))))
-
-  -- both end with the same shared state
-  pub ends_the_same : EndsAsItsProjection program plan hardened_list
-  unfolding hardened_run source_run
-  ends_the_same = record {
-    new = s9;
-    other = two h6 [] [];
-    run = hardened_run.1;
-    ends = refl;
-    source = record { run = source_run.1; ends = refl };
-    same = record { blocks = λ n. refl; owners = refl; output = refl; ended = refl; threads = refl };
-  }

@@ -1,9 +1,6 @@
-pub mod Erased
+pub mod Items
 pub mod Watch
 pub mod LoopPoints
-pub mod NullPointer
-pub mod GivenBlock
-pub mod OpposedLocks
 pub mod SelfLock
 pub mod SmallCases
 pub mod ThroughCaller

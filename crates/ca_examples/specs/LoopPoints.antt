@@ -19,7 +19,7 @@ use Rattle.ca_model.specs.declared.tree.Function.{Function}
 use Rattle.ca_model.specs.Arith.{null}
 use Rattle.ca_model.specs.Codes.{Typed}
 use Rattle.ca_model.specs.Accesses.{A_load, Named_load, Site}
-use Rattle.ca_examples.specs.Erased.{item}
+use Rattle.ca_examples.specs.Items.{item}
 
 abbrev pub main : FunId
 main = record { 0 = 0 }

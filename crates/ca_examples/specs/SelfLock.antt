@@ -25,7 +25,7 @@ use Rattle.ca_model.specs.Codes.{Typed, code_of}
 use Rattle.ca_model.specs.Opening.{opening, EndsAs}
 use Rattle.ca_model.specs.Plans.{Options}
 use Rattle.ca_model.specs.Waits.{HardenedWaits}
-use Rattle.ca_examples.specs.Erased.{item}
+use Rattle.ca_examples.specs.Items.{item}
 
 abbrev pub main : FunId
 main = record { 0 = 0 }

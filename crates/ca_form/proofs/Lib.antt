@@ -6,3 +6,5 @@ pub mod OneGlobals
 pub mod OneHeading
 pub mod OneBody
 pub mod OneForm
+pub mod FirstFormed
+pub mod FirstGlobals

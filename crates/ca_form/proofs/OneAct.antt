@@ -6,10 +6,10 @@ use Rattle.ca_tree.specs.declared.token.Mark.{Mark}
 use Rattle.ca_tree.specs.declared.token.Mark.TheVariants as mark
 use Rattle.ca_tree.specs.declared.token.Token.{Token}
 use Rattle.ca_grammar.specs.Words.{Class, The_mark, The_word, A_string, A_name_of_the_source, Takes, Lacks, Skips, open_paren, close_paren, comma, semicolon, assign}
-use Rattle.ca_model.specs.declared.sums.Part.{Part}
-use Rattle.ca_model.specs.declared.sums.SumAct.{SumAct}
-use Rattle.ca_model.specs.declared.sums.SumAct.TheVariants as sum_act
-use Rattle.ca_model.specs.FirstForm.{IsSum, IsAct, sets, prints, AreActs, no_act, an_act, format_text, sum_of}
+use Rattle.ca_form.specs.declared.parts.Part.{Part}
+use Rattle.ca_form.specs.declared.parts.SumAct.{SumAct}
+use Rattle.ca_form.specs.declared.parts.SumAct.TheVariants as sum_act
+use Rattle.ca_form.specs.FirstForm.{IsSum, IsAct, sets, prints, AreActs, no_act, an_act, format_text, sum_of}
 use Rattle.ca_form.proofs.OneStep.{one_rest, one_name, one_skip, no_library_word, is_printf, lacking, no_plus}
 use Rattle.ca_form.proofs.OneSum.{one_sum}
 

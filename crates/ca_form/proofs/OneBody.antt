@@ -8,10 +8,10 @@ use Rattle.ca_tree.specs.declared.token.Mark.TheVariants.{Semicolon}
 use Rattle.ca_tree.specs.declared.token.Token.{Token}
 use Rattle.ca_tree.specs.Names.{is_reserved}
 use Rattle.ca_grammar.specs.Words.{Class, The_word, The_end, Takes, Lacks, Skips, close_brace, semicolon}
-use Rattle.ca_model.specs.declared.sums.Part.{Part}
-use Rattle.ca_model.specs.declared.sums.SumAct.{SumAct}
-use Rattle.ca_model.specs.declared.sums.Sums.{Sums}
-use Rattle.ca_model.specs.FirstForm.{IsSum, IsAct, sets, prints, AreActs, no_act, an_act, IsBody, sum_of}
+use Rattle.ca_form.specs.declared.parts.Part.{Part}
+use Rattle.ca_form.specs.declared.parts.SumAct.{SumAct}
+use Rattle.ca_form.specs.declared.parts.Sums.{Sums}
+use Rattle.ca_form.specs.FirstForm.{IsSum, IsAct, sets, prints, AreActs, no_act, an_act, IsBody, sum_of}
 use Rattle.ca_expressions.proofs.Following.{other_word}
 use Rattle.ca_form.specs.Body.{IsWithinBody, IsOver}
 use Rattle.ca_form.proofs.OneStep.{plus, named_so, one_skip, past, lacking, no_plus}

@@ -3,9 +3,9 @@ use Rattle.std.proofs.Common.{◌≡◌, ◌≤◌, ℕ, List, [], refl, sym, ap
 use Rattle.std.specs.Prelude.{IfSome, IfNone, Option, Some, None}
 use Rattle.ca_tree.specs.declared.text.Pos.{Pos}
 use Rattle.ca_tree.specs.declared.token.Token.{Token}
-use Rattle.ca_model.specs.declared.sums.Sums.{Sums}
+use Rattle.ca_form.specs.declared.parts.Sums.{Sums}
 use Rattle.ca_model.specs.Codes.{Typed}
-use Rattle.ca_model.specs.FirstForm.{AreGlobals, IsHeading, IsBody, AreNamesAfter, AreFirst, typed}
+use Rattle.ca_form.specs.FirstForm.{AreGlobals, IsHeading, IsBody, AreNamesAfter, AreFirst, typed}
 use Rattle.ca_form.specs.Body.{IsWithinBody}
 use Rattle.ca_form.proofs.OneGlobals.{BeginsMain, LacksGlobals, one_list}
 use Rattle.ca_form.proofs.OneHeading.{LacksHeading, one_heading}

@@ -4,7 +4,7 @@ use Rattle.ca_tree.specs.declared.text.Pos.{Pos}
 use Rattle.ca_tree.specs.declared.token.Token.{Token}
 use Rattle.ca_tree.specs.Names.{is_one_of, is_reserved, is_left_out, is_library_word}
 use Rattle.ca_grammar.specs.Words.{Class, The_word, A_name_of_the_source, Takes, Lacks, Skips, semicolon}
-use Rattle.ca_model.specs.FirstForm.{AreGlobals, no_global, a_global, AreNamesAfter}
+use Rattle.ca_form.specs.FirstForm.{AreGlobals, no_global, a_global, AreNamesAfter}
 use Rattle.ca_form.proofs.OneStep.{one_rest, one_name, named_so, one_skip, past, lacking}
 
 abbrev pub the_int : Class

@@ -3,7 +3,7 @@ use Rattle.std.proofs.Common.{◌≡◌, List, codes}
 use Rattle.ca_tree.specs.declared.text.Pos.{Pos}
 use Rattle.ca_tree.specs.declared.token.Token.{Token}
 use Rattle.ca_grammar.specs.Words.{Class, The_word, Takes, Lacks, Skips, open_paren, close_paren, open_brace}
-use Rattle.ca_model.specs.FirstForm.{IsHeading}
+use Rattle.ca_form.specs.FirstForm.{IsHeading}
 use Rattle.ca_form.proofs.OneStep.{one_skip, past, lacking}
 use Rattle.ca_form.proofs.OneGlobals.{the_int, the_main}
 

@@ -6,9 +6,9 @@ use Rattle.ca_tree.specs.declared.token.Mark.TheVariants.{Plus}
 use Rattle.ca_tree.specs.declared.token.Token.{Token}
 use Rattle.ca_tree.specs.Lexed.{token}
 use Rattle.ca_grammar.specs.Words.{The_mark, A_number, A_name_of_the_source, Takes, Lacks, Skips}
-use Rattle.ca_model.specs.declared.sums.Part.{Part}
-use Rattle.ca_model.specs.declared.sums.Part.TheVariants as part
-use Rattle.ca_model.specs.FirstForm.{IsPart, IsSum, last_part, more_parts}
+use Rattle.ca_form.specs.declared.parts.Part.{Part}
+use Rattle.ca_form.specs.declared.parts.Part.TheVariants as part
+use Rattle.ca_form.specs.FirstForm.{IsPart, IsSum, last_part, more_parts}
 use Rattle.ca_form.proofs.OneStep.{plus, one_rest, one_skip, lacking}
 
 -- ---- empty lists, and lists with one more

@@ -3,8 +3,8 @@ use Rattle.std.specs.Prelude.{◌≡◌, ◌≤◌, ℕ, List, [], All, length}
 use Rattle.ca_tree.specs.declared.text.Pos.{Pos}
 use Rattle.ca_tree.specs.declared.token.Token.{Token}
 use Rattle.ca_grammar.specs.Words.{The_end, Takes, Skips, semicolon, close_brace}
-use Rattle.ca_model.specs.declared.sums.Sums.{Sums}
-use Rattle.ca_model.specs.FirstForm.{sum_of}
+use Rattle.ca_form.specs.declared.parts.Sums.{Sums}
+use Rattle.ca_form.specs.FirstForm.{sum_of}
 
 -- so many globals, and acts and sums within the limits of the form
 pub record IsWithinBody (globals : ℕ) (f : Sums) : Type 0 where

@@ -5,14 +5,14 @@ ghost use Rattle.ca_tree.specs.declared.text.Pos.{Pos};
 ghost use Rattle.ca_tree.specs.declared.token.Token.{Token};
 ghost use Rattle.ca_tree.specs.Names.{is_one_of};
 ghost use Rattle.ca_grammar.specs.Words.{The_word, Skips};
-ghost use Rattle.ca_model.specs.declared.sums.Sums.{Sums};
+ghost use Rattle.ca_form.specs.declared.parts.Sums.{Sums};
 ghost use Rattle.ca_model.specs.Codes.{Typed};
-ghost use Rattle.ca_model.specs.FirstForm.{AreGlobals, AreNamesAfter, IsHeading, IsBody, AreFirst, IsClosed, typed};
+ghost use Rattle.ca_form.specs.FirstForm.{AreGlobals, AreNamesAfter, IsHeading, IsBody, AreFirst, IsClosed, typed};
 ghost use Rattle.ca_form.specs.Body.{IsWithinBody, IsOver};
 
+use crate::parts::Sums;
 use crate::sums::{acts, sum};
 use ca_expressions::steps::{end, mark, name_of_the_source, word};
-use ca_model::Sums;
 use ca_tree::{Listed, Mark, NoMemory, Token};
 use std::alloc::Global;
 

@@ -5,12 +5,12 @@ ghost use Rattle.ca_tree.specs.declared.text.Pos.{Pos};
 ghost use Rattle.ca_tree.specs.declared.token.Mark.TheVariants.{Plus};
 ghost use Rattle.ca_tree.specs.declared.token.Token.{Token};
 ghost use Rattle.ca_grammar.specs.Words.{The_mark, The_word, A_string, Takes, Lacks, Skips, open_paren, close_paren, comma, semicolon};
-ghost use Rattle.ca_model.specs.declared.sums.Part.{Part};
-ghost use Rattle.ca_model.specs.declared.sums.SumAct.{SumAct};
-ghost use Rattle.ca_model.specs.FirstForm.{IsPart, IsSum, IsAct, AreActs, IsClosedPart, IsClosedAct, sum_of, format_text};
+ghost use Rattle.ca_form.specs.declared.parts.Part.{Part};
+ghost use Rattle.ca_form.specs.declared.parts.SumAct.{SumAct};
+ghost use Rattle.ca_form.specs.FirstForm.{IsPart, IsSum, IsAct, AreActs, IsClosedPart, IsClosedAct, sum_of, format_text};
 
+use crate::parts::{Part, SumAct};
 use ca_expressions::steps::{mark, name_of_the_source, number, string, word};
-use ca_model::{Part, SumAct};
 use ca_tree::{Listed, Mark, NoMemory, Token};
 use std::alloc::Global;
 

@@ -60,5 +60,4 @@ pub mod MayCome
 pub mod EnabledThreads
 pub mod RunnerEnds
 pub mod StraightLines
-pub mod FirstFormed
-pub mod FirstGlobals
+pub mod FirstFaults

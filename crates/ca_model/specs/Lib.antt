@@ -29,12 +29,11 @@ pub mod Schedules
 pub mod Runner
 pub mod WellFormed
 pub mod KnownGlobals
+pub mod Bounds
 pub mod Waits
 pub mod Begun
 pub mod Follows
 pub mod Numbering
 pub mod Traces
 pub mod Reports
-pub mod FirstForm
-pub mod FaultTexts
-pub mod Commands
+pub mod typing

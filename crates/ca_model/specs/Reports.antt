@@ -20,6 +20,13 @@ ending_text ending.Unended = codes "unended"
 ending_text ending.Events = codes "events"
 ending_text ending.Frames = codes "frames"
 
+-- the status of the program after a run that ends so
+abbrev pub ending_status : Ending → ℕ
+ending_status ending.Finished = 0
+ending_status (ending.Fault k) = 1
+ending_status ending.Deadlock = 4
+ending_status _ = 5
+
 -- `ending <word>`
 abbrev pub ending_line : Ending → List ℕ
 ending_line end = codes "ending " ++ (ending_text end ++ line_end)

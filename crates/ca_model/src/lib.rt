@@ -2,7 +2,7 @@
 #![tactic(auto)]
 
 mod attempt_laws;
-mod form_laws;
+mod checked;
 mod frame_laws;
 mod item_laws;
 mod lists;
@@ -10,12 +10,13 @@ mod plan;
 mod plan_laws;
 mod run_laws;
 mod runner_laws;
-mod sums;
 mod tree;
+mod types;
+mod typing_laws;
 mod values;
 
 pub use attempt_laws::{projections_have_no_marks, retries_are_bounded};
-pub use form_laws::{the_first_form_is_well_formed, the_first_form_knows_its_globals};
+pub use checked::Checked;
 pub use frame_laws::{
     control_follows_links, frames_are_in_progress, items_begin_once, silent_steps_end,
 };
@@ -32,8 +33,9 @@ pub use run_laws::{
     without_a_plan_it_is_the_source,
 };
 pub use runner_laws::{the_runner_gives_a_run, the_runner_is_a_function};
-pub use sums::{Part, Parts, SumAct, SumActs, Sums};
 pub use tree::{
     Act, BinOp, Exp, Function, GlobalStart, Item, LoadKind, Place, Stmt, Stmts, Target,
 };
+pub use types::{Kind, Meaning, ObjectType, Operand, TypeFault, TypeKind, ValueType, Wanted};
+pub use typing_laws::a_program_has_a_typing_or_a_fault;
 pub use values::{Addr, Ending, Event, EventAct, FaultKind, Given, Value};

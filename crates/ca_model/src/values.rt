@@ -89,8 +89,7 @@ pub enum Ending {
 
 impl Ending {
     ghost use Rattle.std.specs.Prelude.{◌≡◌};
-    ghost use Rattle.ca_model.specs.Reports.{ending_text};
-    ghost use Rattle.ca_model.specs.Commands.{ending_status};
+    ghost use Rattle.ca_model.specs.Reports.{ending_text, ending_status};
 
     /// The word for it in a text.
     pub fn word(self) -> &'static str

@@ -1,5 +1,5 @@
 use Rattle.std.proofs.Common.{Err, inl, inr, ap, refl, map, string_bytes}
-use Rattle.ca_model.specs.Commands.{Misworded}
+use Rattle.ca_cmd.specs.Commands.{Misworded}
 use Rattle.ca_io.specs.Ports.{PutPort, LoadPort, load_port, put_port}
 use Rattle.ca_cmd.proofs.Ends.{Ends, ends_refused, ends_closed, wrote_nothing}
 use Rattle.ca_cmd.proofs.Statuses.{finishes, faults, is_built, cut_at, runs, no_run, misworded_at, refused_at, unread_at, failed_at, status_of, refuses}

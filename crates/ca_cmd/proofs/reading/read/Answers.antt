@@ -7,7 +7,7 @@ use Rattle.ca_tree.specs.Lexed.{HasTokens}
 use Rattle.ca_grammar.specs.Declarations.{IsProgram}
 use Rattle.ca_grammar.specs.Laws.{all_kept}
 use Rattle.ca_model.specs.Codes.{Typed}
-use Rattle.ca_model.specs.FirstForm.{StandsFor, AreFirst, IsFirstForm, typed}
+use Rattle.ca_form.specs.FirstForm.{StandsFor, AreFirst, IsFirstForm, typed}
 use Rattle.ca_cmd.proofs.reading.read.Goals as goal
 
 -- the tokens that are read are those of the text

@@ -1,7 +1,7 @@
 use Rattle.std.proofs.Common.{◌≡◌, ◌++◌, length, take, drop, rules, sym, ◌∙◌, to_z-of_z, SFits, w32, to_z, of_z, Some, List}
 use Rattle.std.specs.Prelude.{ℤ, pos}
-use Rattle.ca_model.specs.declared.sums.SumAct.{SumAct}
-use Rattle.ca_model.specs.FirstForm.{sum_of}
+use Rattle.ca_form.specs.declared.parts.SumAct.{SumAct}
+use Rattle.ca_form.specs.FirstForm.{sum_of}
 use Rattle.ca_cmd.specs.Running.{sum_value, sum_events, cells_after}
 use Rattle.ca_cmd.proofs.Sums.{act_next, cells_next, cells_count}
 use Rattle.ca_cmd.proofs.run.follow.Goals as goal

@@ -2,8 +2,8 @@ use Rattle.std.proofs.Common.{◌≡◌, List, sym, subst}
 use Rattle.std.specs.Prelude.{pos, replicate}
 use Rattle.std.proofs.lemmas.Result.{IfOk-weaker}
 use Rattle.ca_tree.specs.declared.text.Pos.{Pos}
-use Rattle.ca_model.specs.declared.sums.Sums.{Sums}
-use Rattle.ca_model.specs.FirstForm.{typed}
+use Rattle.ca_form.specs.declared.parts.Sums.{Sums}
+use Rattle.ca_form.specs.FirstForm.{typed}
 use Rattle.ca_cmd.specs.declared.run.SourceRun.{SourceRun}
 use Rattle.ca_cmd.specs.Runs.{IsRunOfSource, AreSimple, HasEnded, traced}
 use Rattle.ca_cmd.specs.Running.{Traced, acts_run}

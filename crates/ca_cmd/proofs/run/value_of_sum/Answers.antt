@@ -1,6 +1,6 @@
 use Rattle.std.proofs.Common.{◌≡◌, rules, sym, ◌∙◌, to_z-of_z, SFits, w32, to_z, of_z}
 use Rattle.std.specs.Prelude.{ℤ, ◌+ℤ◌}
-use Rattle.ca_model.specs.declared.sums.Part.TheVariants as part
+use Rattle.ca_form.specs.declared.parts.Part.TheVariants as part
 use Rattle.ca_cmd.proofs.Sums.{value_next, events_next}
 use Rattle.ca_cmd.proofs.run.value_of_sum.Goals as goal
 

@@ -1,7 +1,6 @@
 use Rattle.ca_examples.proofs.Formed.{caller_is_formed}
 use Rattle.ca_examples.proofs.ThroughCallerPaths.{one_site, goes_to_caller, is_pruned}
 use Rattle.ca_examples.proofs.ThroughCallerPlan.{is_plan}
-use Rattle.ca_examples.proofs.ThroughCallerRuns.{ends_the_same}
 use Rattle.ca_examples.proofs.through_caller.a_path_goes_up_to_the_caller.Goals as goal
 
 pub returns-clause-formed : goal.returns-clause-formed
@@ -18,6 +17,3 @@ returns-clause-pruned c = is_pruned
 
 pub returns-clause-planned : goal.returns-clause-planned
 returns-clause-planned c = is_plan
-
-pub returns-clause-hardened : goal.returns-clause-hardened
-returns-clause-hardened c = ends_the_same

@@ -3,7 +3,7 @@ use Rattle.std.specs.Prelude.{IfSome, IfNone}
 use Rattle.std.proofs.lemmas.List.{length-map}
 use Rattle.std.proofs.lemmas.Result.{IfOk-weaker}
 use Rattle.ca_tree.specs.declared.text.Pos.{Pos}
-use Rattle.ca_model.specs.FirstForm.{AreFirst, typed}
+use Rattle.ca_form.specs.FirstForm.{AreFirst, typed}
 use Rattle.ca_form.proofs.OneBody.{LacksBody, HasBody}
 use Rattle.ca_form.proofs.OneForm.{IsNoForm, no_globals, no_heading, no_body, form_found}
 use Rattle.ca_form.proofs.form.first_form.Goals as goal

@@ -1,5 +1,5 @@
 use Rattle.std.proofs.Common.{[], map, length, ◌≤◌, ◌-◌}
-use Rattle.ca_model.specs.FirstForm.{AreNamesAfter}
+use Rattle.ca_form.specs.FirstForm.{AreNamesAfter}
 use Rattle.ca_form.proofs.OneGlobals.{AtGlobals}
 use Rattle.ca_form.proofs.form.globals.Given as goal
 

@@ -1,5 +1,5 @@
 use Rattle.std.proofs.Common.{length, rules}
-use Rattle.ca_model.specs.FirstForm.{IsClosedAct}
+use Rattle.ca_form.specs.FirstForm.{IsClosedAct}
 use Rattle.ca_form.proofs.Named.{texts}
 use Rattle.ca_form.proofs.OneSum.{all_none, all_more}
 use Rattle.ca_form.proofs.OneAct.{IsShort, before_acts, acts_end, too_many, none_there, next_act}

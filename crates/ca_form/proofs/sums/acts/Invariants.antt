@@ -1,5 +1,5 @@
 use Rattle.std.proofs.Common.{All, length, ◌≤◌, ◌-◌}
-use Rattle.ca_model.specs.FirstForm.{IsClosedAct}
+use Rattle.ca_form.specs.FirstForm.{IsClosedAct}
 use Rattle.ca_form.proofs.Named.{texts}
 use Rattle.ca_form.proofs.OneAct.{AtActs, IsShort}
 use Rattle.ca_form.proofs.sums.acts.Given as goal

@@ -1,5 +1,5 @@
 use Rattle.std.proofs.Common.{All, length, Some, ap, sym, subst, ◌∙◌}
-use Rattle.ca_model.specs.FirstForm.{IsClosedPart}
+use Rattle.ca_form.specs.FirstForm.{IsClosedPart}
 use Rattle.ca_form.proofs.Named.{texts, is_within}
 use Rattle.ca_form.proofs.OneAct.{no_name, no_global, no_assign, no_end, set_to}
 use Rattle.ca_form.proofs.sums.set.Goals as goal

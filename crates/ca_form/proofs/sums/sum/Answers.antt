@@ -1,5 +1,5 @@
 use Rattle.std.proofs.Common.{length}
-use Rattle.ca_model.specs.FirstForm.{IsClosedPart}
+use Rattle.ca_form.specs.FirstForm.{IsClosedPart}
 use Rattle.ca_form.proofs.Named.{texts}
 use Rattle.ca_form.proofs.OneSum.{all_more, no_sum, parts_end, next_part}
 use Rattle.ca_form.proofs.sums.sum.Goals as goal

@@ -1,5 +1,5 @@
 use Rattle.std.proofs.Common.{All, length, ◌-◌}
-use Rattle.ca_model.specs.FirstForm.{IsClosedPart}
+use Rattle.ca_form.specs.FirstForm.{IsClosedPart}
 use Rattle.ca_form.proofs.Named.{texts}
 use Rattle.ca_form.proofs.OneSum.{AtParts}
 use Rattle.ca_form.proofs.sums.sum.Given as goal

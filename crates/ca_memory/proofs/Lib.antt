@@ -1,0 +1,5 @@
+pub mod Tables
+pub mod Counts
+pub mod OwnerTables
+pub mod Near
+pub mod Globals

@@ -1,0 +1,15 @@
+//! Laws of typing.
+
+ghost use Rattle.std.specs.Prelude.{◌≡◌, ◌⊎◌};
+ghost use Rattle.ca_tree.specs.declared.tree.Program.{Program};
+ghost use Rattle.ca_model.specs.Codes.{Typed};
+ghost use Rattle.ca_model.specs.declared.types.TypeFault.{TypeFault};
+ghost use Rattle.ca_model.specs.typing.Typing.{IsTyping, IsFault};
+
+/// A program has a typing or a first fault of types, never both, and at most one of each.
+pub fn a_program_has_a_typing_or_a_fault()
+    ensures either { (p : Program) → ((t : Typed) × IsTyping p t) ⊎ ((x : TypeFault) × IsFault p x) }
+    ensures never_both { (p : Program) (t : Typed) (x : TypeFault) → IsTyping p t → IsFault p x → ⊥ }
+    ensures one_typing { (p : Program) (t u : Typed) → IsTyping p t → IsTyping p u → t ≡ u }
+    ensures one_fault { (p : Program) (x y : TypeFault) → IsFault p x → IsFault p y → x ≡ y }
+{}
