@@ -1,5 +1,5 @@
 -- Declarations of parameters and locals (C11 6.2.1, 6.7).
-use Rattle.std.specs.Prelude.{ℕ, ◌+◌, ◌-◌, pos, Bool, not, ◌||◌, nat_lt, List, [], ◌∷◌, ◌++◌, take, length, Option, Some, None, if◌then◌else◌}
+use Rattle.std.specs.Prelude.{ℕ, ◌+◌, ◌-◌, Bool, not, ◌||◌, nat_lt, List, [], ◌∷◌, ◌++◌, take, length, Option, Some, None, if◌then◌else◌}
 use Rattle.std.specs.Str.{bytes_eq}
 use Rattle.std.specs.List.{list_any}
 use Rattle.ca_tree.specs.declared.tree.Name.{Name}
@@ -23,7 +23,6 @@ use Rattle.ca_model.specs.declared.types.Meaning.TheVariants as means
 use Rattle.ca_model.specs.declared.types.TypeKind.TheVariants as wrong
 use Rattle.ca_model.specs.typing.Faults.{fault, unless, given}
 use Rattle.ca_model.specs.typing.Types.{thread}
-use Rattle.ca_model.specs.typing.Places.{behind}
 use Rattle.ca_model.specs.typing.TypeNames.{written_type, type_faults}
 use Rattle.ca_model.specs.typing.Targets.{Aim}
 use Rattle.ca_model.specs.typing.RightSides.{right_faults, set_act}
