@@ -1,0 +1,4 @@
+mod Equations
+pub mod Lookups
+pub mod Noting
+pub mod Firsts

@@ -1,0 +1,36 @@
+-- What the parts of a scope show.
+use Rattle.std.specs.Prelude.{ℕ, ◌≤◌, List, map, reverse, length, All, Option, Vec}
+use denote.Ref.{Bor}
+use Rattle.std.specs.declared.alloc.Global.{Global}
+use Rattle.ca_model.specs.declared.types.ObjectType.{ObjectType}
+use Rattle.ca_model.specs.declared.types.Meaning.{Meaning}
+use Rattle.ca_model.specs.typing.Scopes.{StructOf, Scope}
+use Rattle.ca_operands.specs.declared.scope.FieldOf.{FieldOf}
+use Rattle.ca_operands.specs.declared.scope.LocalName.{LocalName}
+
+abbrev pub Structs : Type 0
+Structs = List (Bor (List ℕ) × Vec FieldOf Global)
+
+abbrev pub shown_field : FieldOf → List ℕ × Option ObjectType
+shown_field f = (f.name.now, f.of)
+
+abbrev pub shown_struct : Bor (List ℕ) × Vec FieldOf Global → StructOf
+shown_struct x = record { tag = x.0.now; fields = map shown_field x.1.items }
+
+abbrev pub shown_global : Bor (List ℕ) × Meaning → List ℕ × Meaning
+shown_global x = (x.0.now, x.1)
+
+abbrev pub shown_local : LocalName → List ℕ × Meaning
+shown_local x = (x.name.now, x.means)
+
+-- the latest local stands last in the code, and first here
+abbrev pub shown : Structs → List (Bor (List ℕ) × Meaning) → List LocalName → Scope
+shown structs globals locals = record {
+  structs = map shown_struct structs;
+  globals = map shown_global globals;
+  locals = map shown_local (reverse locals);
+}
+
+-- a struct has at most 64 fields
+abbrev pub IsSmall : Structs → Type 0
+IsSmall structs = All (λ x. length x.1.items ≤ 64) structs

@@ -1,0 +1,127 @@
+//! What is visible at a place of a program.
+
+ghost use Rattle.std.specs.Prelude.{◌≡◌, ◌≤◌, ◌-◌, [], map, drop, length, MatchOption};
+ghost use Rattle.ca_model.specs.typing.Types.{cells};
+ghost use Rattle.ca_model.specs.typing.Scopes.{find, numbered, meaning, fields_of, field_count, field_of};
+ghost use Rattle.ca_operands.specs.Shown.{shown, shown_field, IsSmall};
+
+use ca_model::{Kind, Meaning, ObjectType};
+use ca_tree::StructId;
+use indexmap::IndexMap;
+use std::marker::Model;
+
+/// A field of a struct; a type that was refused is none.
+#[derive(Clone, Copy)]
+pub struct FieldOf<'a> {
+    pub name: &'a [u8],
+    pub of: Option<ObjectType>,
+}
+
+/// A parameter or a local that is visible.
+#[derive(Clone, Copy)]
+pub struct LocalName<'a> {
+    pub name: &'a [u8],
+    pub means: Meaning,
+}
+
+/// What is visible: the structs by their tags and the names outside of functions, each in order of declaration, and the
+/// parameters and locals, the latest last.
+#[derive(Drop)]
+pub struct Scope<'a> {
+    structs: IndexMap<&'a [u8], Vec<FieldOf<'a>>>,
+    globals: IndexMap<&'a [u8], Meaning>,
+    locals: Vec<LocalName<'a>>,
+}
+
+impl<'a> Model for Scope<'a> {
+    ghost use Rattle.ca_model.specs.typing.Scopes.{Scope};
+    ghost use Rattle.ca_operands.specs.Shown.{shown, shown_field, IsSmall};
+
+    ghost Value = { Scope };
+
+    ghost view = { λ s. shown s.structs.entries s.globals.entries s.locals.items };
+
+    ghost invariant = { λ s. IsSmall s.structs.entries };
+}
+
+impl<'a> Scope<'a> {
+    fn local(&self, name: &[u8]) -> Option<Meaning>
+        ensures { result ≡ find name.now self.now.locals }
+    {
+        let locals = self.locals.as_slice();
+        let mut left = locals.len();
+        while left > 0 {
+            left -= 1;
+            let local = locals[left];
+            if name == local.name {
+                return Some(local.means);
+            }
+        }
+        None
+    }
+
+    /// How many locals are visible.
+    pub fn local_count(&self) -> usize
+        ensures { result ≡ length self.now.locals }
+    {
+        self.locals.len()
+    }
+
+    /// Only the earliest so many locals stay visible.
+    pub fn keep_locals(&mut self, count: usize)
+        ensures { self.new ≡ record self.old { locals = drop (length self.old.locals - count) self.old.locals } }
+    {
+        self.locals.truncate(count);
+    }
+
+    /// What a name means here.
+    pub fn meaning(&self, name: &'a [u8]) -> Option<Meaning>
+        ensures { result ≡ meaning self.now name.now }
+    {
+        match self.local(name) {
+            Some(means) => Some(means),
+            None => self.globals.get(&name).copied(),
+        }
+    }
+
+    fn fields(&self, of: StructId) -> Option<&[FieldOf<'a>]>
+        ensures { MatchOption result (fields_of self.now of ≡ []) (λ f. (map shown_field f.now ≡ fields_of self.now of) × (length f.now ≤ 64)) }
+    {
+        let (_, fields) = self.structs.get_index(of.0 as usize)?;
+        Some(fields.as_slice())
+    }
+
+    /// How many cells an object has.
+    pub fn cells(&self, of: ObjectType) -> u32
+        ensures { result ≡ cells (field_count self.now) of }
+    {
+        match of.kind {
+            Kind::Struct(id) if of.stars == 0 => match self.fields(id) {
+                Some(fields) => fields.len() as u32,
+                None => 0,
+            },
+            _ => 1,
+        }
+    }
+
+    /// The number of a field of a struct, and its type.
+    pub fn field(&self, of: StructId, name: &[u8]) -> Option<(u32, Option<ObjectType>)>
+        ensures { result ≡ field_of self.now of name.now }
+    {
+        numbered(self.fields(of)?, name)
+    }
+}
+
+fn numbered(fields: &[FieldOf<'_>], name: &[u8]) -> Option<(u32, Option<ObjectType>)>
+    requires { length fields.now ≤ 64 }
+    ensures { result ≡ numbered 0 name.now (map shown_field fields.now) }
+{
+    let mut index = 0;
+    for field in fields {
+        if name == field.name {
+            return Some((index, field.of));
+        }
+        index += 1;
+    }
+    None
+}
