@@ -1,6 +1,6 @@
 -- The fault that is left when all are noted is the first.
-use Rattle.std.proofs.Common.{◌≡◌, ◌⊎◌, inl, inr, Bool, true, false, List, [], ◌∷◌, Some, None, refl, subst}
-use Rattle.std.specs.Prelude.{Contains, if◌then◌else◌}
+use Rattle.std.proofs.Common.{◌≡◌, ◌⊎◌, inl, inr, Bool, true, false, List, [], ◌∷◌, Some, None, Option, refl, sym, subst}
+use Rattle.std.specs.Prelude.{Contains, MatchOption, if◌then◌else◌}
 use Rattle.ca_model.specs.declared.types.TypeFault.{TypeFault}
 use Rattle.ca_model.specs.typing.Faults.{is_before, IsFirst}
 use Rattle.ca_model.proofs.FirstFaults.{not_before_itself, not_before_through, before_one_way}
@@ -53,3 +53,7 @@ some_left f (x ∷ xs) h = some_left (sooner (Some f) x) xs h
 pub none_of : (xs : List TypeFault) → noted None xs ≡ None → xs ≡ []
 none_of [] h = refl
 none_of (x ∷ xs) h = absurd (some_left x xs h)
+
+pub answer_of : (xs : List TypeFault) (r : Option TypeFault) → r ≡ noted None xs → MatchOption r (xs ≡ []) (IsFirst xs)
+answer_of xs None h = none_of xs (sym h)
+answer_of xs (Some x) h = first_of xs x (sym h)

@@ -11,6 +11,9 @@ use Rattle.ca_operands.specs.declared.scope.LocalName.{LocalName}
 abbrev pub Structs : Type 0
 Structs = List (Bor (List ℕ) × Vec FieldOf Global)
 
+abbrev pub Globals : Type 0
+Globals = List (Bor (List ℕ) × Meaning)
+
 abbrev pub shown_field : FieldOf → List ℕ × Option ObjectType
 shown_field f = (f.name.now, f.of)
 
@@ -24,13 +27,14 @@ abbrev pub shown_local : LocalName → List ℕ × Meaning
 shown_local x = (x.name.now, x.means)
 
 -- the latest local stands last in the code, and first here
-abbrev pub shown : Structs → List (Bor (List ℕ) × Meaning) → List LocalName → Scope
+abbrev pub shown : Structs → Globals → List LocalName → Scope
 shown structs globals locals = record {
   structs = map shown_struct structs;
   globals = map shown_global globals;
   locals = map shown_local (reverse locals);
 }
 
--- a struct has at most 64 fields
-abbrev pub IsSmall : Structs → Type 0
-IsSmall structs = All (λ x. length x.1.items ≤ 64) structs
+-- there are at most 64 structs, and each has at most 64 fields
+pub record IsSmall (structs : Structs) : Type 0 where
+  pub few : length structs ≤ 64
+  pub few_fields : All (λ x. length x.1.items ≤ 64) structs

@@ -272,14 +272,14 @@ fn arrow(
 fn name<'a>(
     alloc: Global,
     scope: &Scope<'a>,
-    name: &'a Name,
+    of: &'a Name,
     faults: &mut Faults,
 ) -> Result<Option<Operand>, NoMemory>
-    ensures is { IfOk result (λ r. r ≡ values.also (scopes.meaning scope.now name.now.text) expressions.named) }
-    ensures noted { OnOk result (faults.new.first ≡ noted faults.old.first (if_none (fault name.now.pos Unknown) (scopes.meaning scope.now name.now.text))) }
+    ensures is { IfOk result (λ r. r ≡ values.also (scopes.meaning scope.now of.now.text) expressions.named) }
+    ensures noted { OnOk result (faults.new.first ≡ noted faults.old.first (if_none (fault of.now.pos Unknown) (scopes.meaning scope.now of.now.text))) }
 {
-    let Some(means) = scope.meaning(name.text.as_slice()) else {
-        faults.note(name.pos, TypeKind::Unknown);
+    let Some(means) = scope.meaning(of.text.as_slice()) else {
+        faults.note(of.pos, TypeKind::Unknown);
         return Ok(None);
     };
     named(alloc, means)

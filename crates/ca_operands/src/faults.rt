@@ -1,7 +1,8 @@
 //! The first fault.
 
-ghost use Rattle.std.specs.Prelude.{◌≡◌, [], ◌∷◌};
-ghost use Rattle.ca_model.specs.typing.Faults.{fault, is_before, rank, unless};
+ghost use Rattle.std.specs.Prelude.{◌≡◌, [], ◌∷◌, List, None, MatchOption};
+ghost use Rattle.ca_model.specs.typing.Faults.{fault, is_before, rank, unless, IsFirst};
+ghost use Rattle.ca_model.specs.declared.types.TypeFault.{TypeFault};
 ghost use Rattle.ca_operands.specs.Noted.{noted};
 
 use ca_model::{TypeFault, TypeKind};
@@ -39,6 +40,20 @@ fn comes_before(x: TypeFault, y: TypeFault) -> bool
 }
 
 impl Faults {
+    /// No fault so far.
+    pub fn none() -> Faults
+        ensures { result.first ≡ None }
+    {
+        Faults { first: None }
+    }
+
+    /// What is told of all faults, where each was noted: the first of them, or none where there is none.
+    pub fn answer(&self) -> Option<TypeFault>
+        ensures { (all : List TypeFault) → self.now.first ≡ noted None all → MatchOption result (all ≡ []) (IsFirst all) }
+    {
+        self.first
+    }
+
     /// One more fault.
     pub fn note(&mut self, pos: Pos, kind: TypeKind)
         ensures { self.new.first ≡ noted self.old.first (fault pos kind ∷ []) }

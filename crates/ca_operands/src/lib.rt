@@ -6,13 +6,15 @@ mod faults;
 mod operators;
 mod places;
 mod scope;
+mod type_names;
 mod types;
 mod uses;
 mod values;
 
-pub use expressions::{operand, place_of};
+pub use expressions::{may_be_place, operand, place_of, unless_place};
 pub use faults::Faults;
 pub use scope::{FieldOf, LocalName, Scope};
+pub use type_names::{note_type, written_type};
 pub use types::{held, is_void, same_object};
 pub use uses::value_in;
-pub use values::{TypedValue, fits, is_scalar, value_of};
+pub use values::{TypedValue, fits, is_scalar, is_zero, value_of};

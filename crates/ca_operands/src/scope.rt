@@ -1,13 +1,15 @@
 //! What is visible at a place of a program.
 
-ghost use Rattle.std.specs.Prelude.{◌≡◌, ◌≤◌, ◌-◌, [], map, drop, length, MatchOption};
+ghost use Rattle.std.specs.Prelude.{◌≡◌, ◌≤◌, ◌-◌, [], ◌∷◌, map, drop, length, MatchOption, OnOk, OnErr};
 ghost use Rattle.ca_model.specs.typing.Types.{cells};
-ghost use Rattle.ca_model.specs.typing.Scopes.{find, numbered, meaning, fields_of, field_count, field_of};
+ghost use Rattle.ca_model.specs.typing.Scopes.{find, numbered, struct_numbered, meaning, fields_of, field_count, field_of};
+ghost use Rattle.ca_model.specs.typing.Globals.{with_name};
 ghost use Rattle.ca_operands.specs.Shown.{shown, shown_field, IsSmall};
 
 use ca_model::{Kind, Meaning, ObjectType};
-use ca_tree::StructId;
+use ca_tree::{NoMemory, StructId};
 use indexmap::IndexMap;
+use std::alloc::Global;
 use std::marker::Model;
 
 /// A field of a struct; a type that was refused is none.
@@ -45,6 +47,47 @@ impl<'a> Model for Scope<'a> {
 }
 
 impl<'a> Scope<'a> {
+    /// Nothing is declared yet.
+    pub fn new(alloc: Global) -> Scope<'a>
+        ensures structs { result.structs ≡ [] }
+        ensures globals { result.globals ≡ [] }
+        ensures locals { result.locals ≡ [] }
+    {
+        Scope {
+            structs: IndexMap::new(alloc),
+            globals: IndexMap::new(alloc),
+            locals: Vec::new(alloc),
+        }
+    }
+
+    /// Declares a name outside of functions; a second declaration changes nothing.
+    pub fn declare_global(&mut self, name: &'a [u8], means: Meaning) -> Result<(), NoMemory>
+        ensures ok { OnOk result (self.new ≡ with_name self.old name.now means) }
+        ensures err { OnErr result (self.new ≡ self.old) }
+    {
+        if !self.globals.contains_key(&name) {
+            self.globals.insert(name, means)?;
+        }
+        Ok(())
+    }
+
+    /// Makes a parameter or a local visible, which hides those of its name.
+    pub fn push_local(&mut self, name: &'a [u8], means: Meaning) -> Result<(), NoMemory>
+        ensures ok { OnOk result (self.new ≡ record self.old { locals = (name.now, means) ∷ self.old.locals }) }
+        ensures err { OnErr result (self.new ≡ self.old) }
+    {
+        self.locals.push(LocalName { name, means })?;
+        Ok(())
+    }
+
+    /// The struct of a tag.
+    pub fn struct_id(&self, tag: &'a [u8]) -> Option<StructId>
+        ensures { result ≡ struct_numbered 0 tag.now self.now.structs }
+    {
+        let index = self.structs.get_index_of(&tag)?;
+        Some(StructId(index as u32))
+    }
+
     fn local(&self, name: &[u8]) -> Option<Meaning>
         ensures { result ≡ find name.now self.now.locals }
     {

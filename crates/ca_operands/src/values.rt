@@ -58,7 +58,7 @@ pub(crate) fn pointed_at(of: ValueType) -> Option<ObjectType>
 }
 
 /// Whether a value is the number 0 as it is written.
-pub(crate) fn is_zero(exp: &Exp) -> bool
+pub fn is_zero(exp: &Exp) -> bool
     ensures { result ≡ values.is_zero exp.now }
 {
     match exp {
