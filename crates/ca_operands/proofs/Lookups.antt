@@ -14,10 +14,10 @@ use Rattle.ca_model.specs.typing.Globals.{with_name}
 use Rattle.indexmap.specs.IndexMap.{insert_entry}
 use Rattle.ca_model.specs.typing.Scopes.{Scope, find, meaning, struct_numbered}
 use Rattle.ca_operands.specs.declared.scope.LocalName.{LocalName}
-use Rattle.ca_operands.specs.Shown.{Structs, Globals, shown, shown_struct, shown_global, shown_local}
+use Rattle.ca_operands.specs.Shown.{Structs, Globals, shown, shown_struct, shown_entry, shown_local}
 
--- a name outside of functions
-pub looked_up : (n : List ℕ) (es : Globals) → lookup (λ k. bytes_eq n k.now) es ≡ find n (map shown_global es)
+-- a look-up in a map by names
+pub looked_up : {A : Type 0} (n : List ℕ) (es : List (Bor (List ℕ) × A)) → lookup (λ k. bytes_eq n k.now) es ≡ find n (map shown_entry es)
 looked_up n [] = refl
 looked_up n (e ∷ es) = ap (cond (bytes_eq n e.0.now) (Some e.1)) (looked_up n es)
 
@@ -49,22 +49,22 @@ none_if None h = refl
 none_if (Some a) h = absurd cc
 
 -- whether a name is declared outside of functions
-pub is_declared : (n : Bor (List ℕ)) (globals : Globals) (b : Bool) → b ≡ is_some (lookup (λ k. bytes_eq n.now k.now) globals) → is_some (find n.now (map shown_global globals)) ≡ b
+pub is_declared : (n : Bor (List ℕ)) (globals : Globals) (b : Bool) → b ≡ is_some (lookup (λ k. bytes_eq n.now k.now) globals) → is_some (find n.now (map shown_entry globals)) ≡ b
 is_declared n globals b is = ap (λ (x : Option Meaning). is_some x) (sym (looked_up n.now globals)) ∙ sym is
 
-inserted : (n : Bor (List ℕ)) (m : Meaning) (globals : Globals) → find n.now (map shown_global globals) ≡ None
-    → map shown_global (insert_entry (λ a b. bytes_eq a.now b.now) globals n m) ≡ map shown_global globals ++ (n.now, m) ∷ []
+inserted : (n : Bor (List ℕ)) (m : Meaning) (globals : Globals) → find n.now (map shown_entry globals) ≡ None
+    → map shown_entry (insert_entry (λ a b. bytes_eq a.now b.now) globals n m) ≡ map shown_entry globals ++ (n.now, m) ∷ []
 inserted n m [] none = refl
 inserted n m (e ∷ es) none = by (inserted n m es) (bytes_eq n.now e.0.now) none
   where
-    by : (find n.now (map shown_global es) ≡ None → map shown_global (insert_entry (λ a b. bytes_eq a.now b.now) es n m) ≡ map shown_global es ++ (n.now, m) ∷ []) → (b : Bool) → (if b then Some e.1 else find n.now (map shown_global es)) ≡ None
-        → map shown_global (if b then (e.0, m) ∷ es else e ∷ insert_entry (λ a b. bytes_eq a.now b.now) es n m) ≡ shown_global e ∷ (map shown_global es ++ (n.now, m) ∷ [])
+    by : (find n.now (map shown_entry es) ≡ None → map shown_entry (insert_entry (λ a b. bytes_eq a.now b.now) es n m) ≡ map shown_entry es ++ (n.now, m) ∷ []) → (b : Bool) → (if b then Some e.1 else find n.now (map shown_entry es)) ≡ None
+        → map shown_entry (if b then (e.0, m) ∷ es else e ∷ insert_entry (λ a b. bytes_eq a.now b.now) es n m) ≡ shown_entry e ∷ (map shown_entry es ++ (n.now, m) ∷ [])
     by back true h = absurd cc
-    by back false h = ap (λ (xs : List (List ℕ × Meaning)). shown_global e ∷ xs) (back h)
+    by back false h = ap (λ (xs : List (List ℕ × Meaning)). shown_entry e ∷ xs) (back h)
 
 -- a new name stands last, and one that is declared changes nothing
 pub declared_new : (structs : Structs) (globals more : Globals) (locals : List LocalName) (n : Bor (List ℕ)) (m : Meaning) (s : Scope)
-    → more ≡ insert_entry (λ a b. bytes_eq a.now b.now) globals n m → shown structs globals locals ≡ s → is_some (find n.now (map shown_global globals)) ≡ false → shown structs more locals ≡ with_name s n.now m
+    → more ≡ insert_entry (λ a b. bytes_eq a.now b.now) globals n m → shown structs globals locals ≡ s → is_some (find n.now (map shown_entry globals)) ≡ false → shown structs more locals ≡ with_name s n.now m
 declared_new structs globals more locals n m s is same new =
     ap (λ (es : Globals). shown structs es locals) is
     ∙ ap (λ (gs : List (List ℕ × Meaning)). let s = shown structs globals locals in record s { globals = gs }) (inserted n m globals (none_if _ new))
@@ -72,7 +72,7 @@ declared_new structs globals more locals n m s is same new =
     ∙ ap (λ (s : Scope). with_name s n.now m) same
 
 pub declared_again : (structs : Structs) (globals : Globals) (locals : List LocalName) (n : Bor (List ℕ)) (m : Meaning) (s : Scope)
-    → shown structs globals locals ≡ s → is_some (find n.now (map shown_global globals)) ≡ true → s ≡ with_name s n.now m
+    → shown structs globals locals ≡ s → is_some (find n.now (map shown_entry globals)) ≡ true → s ≡ with_name s n.now m
 declared_again structs globals locals n m s same there =
     sym same ∙ ap (λ (b : Bool). let s = shown structs globals locals in if b then s else record s { globals = s.globals ++ (n.now, m) ∷ [] }) (sym there)
     ∙ ap (λ (s : Scope). with_name s n.now m) same

@@ -32,6 +32,16 @@ noted_append f (x ∷ xs) ys = noted_append (Some (sooner f x)) xs ys
 pub noted_more : (f g : Option TypeFault) (xs ys zs : List TypeFault) → g ≡ noted f xs → zs ≡ xs ++ ys → noted g ys ≡ noted f zs
 noted_more f g xs ys zs parts all = ap (λ g. noted g ys) parts ∙ sym (noted_append f xs ys) ∙ ap (noted f) (sym all)
 
+-- of two, three and four parts
+pub noted_two : (f g h : Option TypeFault) (xs ys : List TypeFault) → g ≡ noted f xs → h ≡ noted g ys → h ≡ noted f (xs ++ ys)
+noted_two f g h xs ys one two = two ∙ noted_more f g xs ys (xs ++ ys) one refl
+
+pub noted_three : (f g h i : Option TypeFault) (xs ys zs : List TypeFault) → g ≡ noted f xs → h ≡ noted g ys → i ≡ noted h zs → i ≡ noted f (xs ++ ys ++ zs)
+noted_three f g h i xs ys zs one two three = noted_two f h i (xs ++ ys) zs (noted_two f g h xs ys one two) three
+
+pub noted_four : (f g h i j : Option TypeFault) (xs ys zs ws : List TypeFault) → g ≡ noted f xs → h ≡ noted g ys → i ≡ noted h zs → j ≡ noted i ws → j ≡ noted f (xs ++ ys ++ zs ++ ws)
+noted_four f g h i j xs ys zs ws one two three four = noted_two f i j (xs ++ ys ++ zs) ws (noted_three f g h i xs ys zs one two three) four
+
 -- what is no place, by a test
 no_place_by : {A : Type 0} (b : Bool) (x : Option Operand) (f : Operand → Option A) (p : TypeFault)
     → (if b then given x (λ y. if_none p (f y)) else p ∷ []) ≡ unless (b && (not (is_some x) || is_some (also x f))) p
@@ -45,6 +55,16 @@ no_place_by true (Some y) f p = by (f y)
 
 pub no_place_is : {A : Type 0} (j : Judged) (f : Operand → Option A) → no_place j f ≡ unless (j.may_be_place && (not (is_some j.is) || is_some (also j.is f))) (fault j.pos wrong.NotLvalue)
 no_place_is j f = no_place_by j.may_be_place j.is f (fault j.pos wrong.NotLvalue)
+
+-- g is the first fault before an operand or a target is tested to be a place, and h behind the test
+pub of_place : {A : Type 0} (s : Scope) (g h : Option TypeFault) (x : Exp) (rule : Operand → Option A) (y : Option Operand) (z : Option A) (is_typed is_found : Bool)
+    → y ≡ (judged s x).is → is_typed ≡ is_some y → z ≡ also y rule → is_found ≡ is_some z
+    → h ≡ noted g (unless ((judged s x).may_be_place && (not is_typed || is_found)) (fault (judged s x).pos wrong.NotLvalue)) → h ≡ noted g (no_place (judged s x) rule)
+of_place s g h x rule y z is_typed is_found is one gives two noted_is =
+    let j = judged s x in
+    noted_is ∙ ap (λ (b : Bool). noted g (unless (j.may_be_place && (not b || is_found)) (fault j.pos wrong.NotLvalue))) (one ∙ ap (λ (y : Option Operand). is_some y) is)
+    ∙ ap (λ (b : Bool). noted g (unless (j.may_be_place && (not (is_some j.is) || b)) (fault j.pos wrong.NotLvalue))) (two ∙ ap (λ z. is_some z) (gives ∙ ap (λ (y : Option Operand). also y rule) is))
+    ∙ ap (noted g) (sym (no_place_is j rule))
 
 -- f is the first fault before an expression, and g behind its parts
 module _ (s : Scope) (f g : Option TypeFault) where

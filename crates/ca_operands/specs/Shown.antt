@@ -20,8 +20,9 @@ shown_field f = (f.name.now, f.of)
 abbrev pub shown_struct : Bor (List ℕ) × Vec FieldOf Global → StructOf
 shown_struct x = record { tag = x.0.now; fields = map shown_field x.1.items }
 
-abbrev pub shown_global : Bor (List ℕ) × Meaning → List ℕ × Meaning
-shown_global x = (x.0.now, x.1)
+-- an entry of a map by names
+abbrev pub shown_entry : {A : Type 0} → Bor (List ℕ) × A → List ℕ × A
+shown_entry x = (x.0.now, x.1)
 
 abbrev pub shown_local : LocalName → List ℕ × Meaning
 shown_local x = (x.name.now, x.means)
@@ -30,7 +31,7 @@ shown_local x = (x.name.now, x.means)
 abbrev pub shown : Structs → Globals → List LocalName → Scope
 shown structs globals locals = record {
   structs = map shown_struct structs;
-  globals = map shown_global globals;
+  globals = map shown_entry globals;
   locals = map shown_local (reverse locals);
 }
 

@@ -5,9 +5,28 @@ ghost use Rattle.ca_model.specs.typing.Types as types;
 
 use ca_model::{Kind, LoadKind, ObjectType, ValueType};
 
-const VOID: ObjectType = ObjectType {
+/// `int`
+pub const INT: ObjectType = ObjectType {
+    kind: Kind::Int,
+    stars: 0,
+};
+
+/// `pthread_t`
+pub const THREAD: ObjectType = ObjectType {
+    kind: Kind::Thread,
+    stars: 0,
+};
+
+/// `void`
+pub const VOID: ObjectType = ObjectType {
     kind: Kind::Void,
     stars: 0,
+};
+
+/// `void *`
+pub const VOID_POINTER: ObjectType = ObjectType {
+    kind: Kind::Void,
+    stars: 1,
 };
 
 fn plain_value(kind: Kind) -> Option<ValueType>

@@ -16,7 +16,8 @@ use ca_tree::tree::Exp;
 use ca_tree::{NoMemory, Pos};
 use std::alloc::Global;
 
-fn value_or_zero(value: Option<TypedValue>) -> TypedExp
+/// A value; 0 stands for one that was refused.
+pub fn value_or_zero(value: Option<TypedValue>) -> TypedExp
     ensures { result ≡ value_or_zero value }
 {
     match value {
@@ -25,7 +26,9 @@ fn value_or_zero(value: Option<TypedValue>) -> TypedExp
     }
 }
 
-fn value_is_wanted(wanted: Wanted, value: &Option<TypedValue>) -> bool
+/// Whether an operand that isn't refused goes where such values are wanted. A mutex, a function and a whole struct are no
+/// values.
+pub fn value_is_wanted(wanted: Wanted, value: &Option<TypedValue>) -> bool
     ensures { result ≡ value_is_wanted wanted value.now }
 {
     match (wanted, value) {

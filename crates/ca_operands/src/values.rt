@@ -67,21 +67,37 @@ pub fn is_zero(exp: &Exp) -> bool
     }
 }
 
+/// Whether a pointer to objects of a type goes into an object that holds such values.
+pub fn pointer_fits(from: ObjectType, into: Option<ValueType>) -> bool
+    ensures { result ≡ values.pointer_fits from into }
+{
+    match into {
+        Some(ValueType::Pointer(to)) => same_object(from, to) || (is_void(from) || is_void(to)),
+        _ => false,
+    }
+}
+
+fn takes_int(into: Option<ValueType>, exp: &Exp) -> bool
+    ensures { result ≡ values.takes_int into exp.now }
+{
+    match into {
+        Some(ValueType::Int) => true,
+        Some(ValueType::Pointer(_)) => is_zero(exp),
+        _ => false,
+    }
+}
+
 /// Whether a value goes into an object of a type (C11 6.5.16.1): a value of its own type; `NULL`, 0 and a `void *` into
 /// any pointer; any pointer into a `void *`.
 pub fn fits(of: ObjectType, value: &TypedValue) -> bool
     ensures { result ≡ values.fits of value.now }
 {
-    match (held(of), value.0) {
-        (Some(ValueType::Int), ValueType::Int) | (Some(ValueType::Thread), ValueType::Thread) => {
-            true
-        }
-        (Some(ValueType::Pointer(_)), ValueType::Int) => is_zero(&value.1),
-        (Some(ValueType::Pointer(_)), ValueType::Null) => true,
-        (Some(ValueType::Pointer(to)), ValueType::Pointer(from)) => {
-            same_object(from, to) || (is_void(from) || is_void(to))
-        }
-        _ => false,
+    let into = held(of);
+    match value.0 {
+        ValueType::Int => takes_int(into, &value.1),
+        ValueType::Thread => matches!(into, Some(ValueType::Thread)),
+        ValueType::Null => matches!(into, Some(ValueType::Pointer(_))),
+        ValueType::Pointer(from) => pointer_fits(from, into),
     }
 }
 
