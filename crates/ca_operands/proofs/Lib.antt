@@ -2,3 +2,4 @@ mod Equations
 pub mod Lookups
 pub mod Noting
 pub mod Firsts
+pub mod Tags

@@ -1,10 +1,12 @@
 -- What the parts of a scope show.
-use Rattle.std.specs.Prelude.{ℕ, ◌≤◌, List, map, reverse, length, All, Option, Vec}
+use Rattle.std.specs.Prelude.{◌≡◌, ℕ, ◌≤◌, Bool, false, List, [], map, reverse, length, All, Option, Vec}
 use denote.Ref.{Bor}
+use Rattle.std.specs.Str.{bytes_eq}
 use Rattle.std.specs.declared.alloc.Global.{Global}
 use Rattle.ca_model.specs.declared.types.ObjectType.{ObjectType}
 use Rattle.ca_model.specs.declared.types.Meaning.{Meaning}
 use Rattle.ca_model.specs.typing.Scopes.{StructOf, Scope}
+use Rattle.ca_model.specs.typing.Structs.{is_tag, with_tag}
 use Rattle.ca_operands.specs.declared.scope.FieldOf.{FieldOf}
 use Rattle.ca_operands.specs.declared.scope.LocalName.{LocalName}
 
@@ -13,6 +15,9 @@ Structs = List (Bor (List ℕ) × Vec FieldOf Global)
 
 abbrev pub Globals : Type 0
 Globals = List (Bor (List ℕ) × Meaning)
+
+abbrev pub same_text : Bor (List ℕ) → Bor (List ℕ) → Bool
+same_text a b = bytes_eq a.now b.now
 
 abbrev pub shown_field : FieldOf → List ℕ × Option ObjectType
 shown_field f = (f.name.now, f.of)
@@ -39,3 +44,7 @@ shown structs globals locals = record {
 pub record IsSmall (structs : Structs) : Type 0 where
   pub few : length structs ≤ 64
   pub few_fields : All (λ x. length x.1.items ≤ 64) structs
+
+-- where t is a scope with a struct that has no fields yet, u has it with these
+abbrev pub Completes : Scope → Scope → List ℕ → List (List ℕ × Option ObjectType) → Type 0
+Completes t u tag fields = (s : Scope) → is_tag s tag ≡ false → t ≡ with_tag s tag [] → u ≡ with_tag s tag fields

@@ -18,3 +18,6 @@ pub use type_names::{note_type, written_type};
 pub use types::{INT, THREAD, VOID, VOID_POINTER, held, is_void, same_object};
 pub use uses::{value_in, value_is_wanted, value_or_zero};
 pub use values::{TypedValue, fits, is_scalar, is_zero, pointer_fits, value_of};
+
+#[cfg(test)]
+mod tests;

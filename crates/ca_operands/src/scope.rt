@@ -1,10 +1,12 @@
 //! What is visible at a place of a program.
 
-ghost use Rattle.std.specs.Prelude.{◌≡◌, ◌≤◌, ◌-◌, [], ◌∷◌, map, drop, length, MatchOption, OnOk, OnErr};
+ghost use Rattle.std.specs.Prelude.{◌≡◌, ◌<◌, ◌≤◌, ◌-◌, true, [], ◌∷◌, map, drop, length, MatchOption, OnOk, OnErr};
 ghost use Rattle.ca_model.specs.typing.Types.{cells};
 ghost use Rattle.ca_model.specs.typing.Scopes.{find, numbered, struct_numbered, meaning, fields_of, field_count, field_of};
 ghost use Rattle.ca_model.specs.typing.Globals.{with_name};
-ghost use Rattle.ca_operands.specs.Shown.{shown, shown_field, IsSmall};
+ghost use Rattle.ca_model.specs.typing.Structs.{is_tag, with_tag};
+ghost use Rattle.ca_operands.specs.Shown.{same_text, shown, shown_field, Completes, IsSmall};
+ghost use Rattle.indexmap.specs.IndexMap.{insert_entry};
 
 use ca_model::{Kind, Meaning, ObjectType};
 use ca_tree::{NoMemory, StructId};
@@ -58,6 +60,31 @@ impl<'a> Scope<'a> {
             globals: IndexMap::new(alloc),
             locals: Vec::new(alloc),
         }
+    }
+
+    /// Declares a struct that has no fields yet, so that they can be pointers to it; a second definition changes nothing.
+    pub fn declare_struct(&mut self, alloc: Global, tag: &'a [u8]) -> Result<(), NoMemory>
+        requires { length self.old.structs < 64 }
+        ensures ok { OnOk result (self.new ≡ with_tag self.old tag.now []) }
+        ensures err { OnErr result (self.new ≡ self.old) }
+    {
+        if !self.structs.contains_key(&tag) {
+            put(&mut self.structs, tag, Vec::new(alloc))?;
+        }
+        Ok(())
+    }
+
+    /// Gives a struct that was declared last its fields.
+    pub fn complete_struct(
+        &mut self,
+        tag: &'a [u8],
+        fields: Vec<FieldOf<'a>>,
+    ) -> Result<(), NoMemory>
+        requires declared { is_tag self.old tag.now ≡ true }
+        requires few { length fields.items ≤ 64 }
+        ensures { OnOk result (Completes self.old self.new tag.now (map shown_field fields.entry.items)) }
+    {
+        put(&mut self.structs, tag, fields)
     }
 
     /// Declares a name outside of functions; a second declaration changes nothing.
@@ -153,6 +180,19 @@ impl<'a> Scope<'a> {
     {
         numbered(self.fields(of)?, name)
     }
+}
+
+// The fields of a tag, in place of those that it had.
+fn put<'a>(
+    structs: &mut IndexMap<&'a [u8], Vec<FieldOf<'a>>>,
+    tag: &'a [u8],
+    fields: Vec<FieldOf<'a>>,
+) -> Result<(), NoMemory>
+    ensures entries { OnOk result (structs.new.entries ≡ insert_entry same_text structs.old.entries tag.entry fields.entry) }
+    ensures err { OnErr result (structs.new.entries ≡ structs.old.entries) }
+{
+    structs.insert(tag, fields)?;
+    Ok(())
 }
 
 fn numbered(fields: &[FieldOf<'_>], name: &[u8]) -> Option<(u32, Option<ObjectType>)>
