@@ -1,0 +1,5 @@
+pub mod Functions
+pub mod Shown
+pub mod Formats
+pub mod Arguments
+pub mod Updates

@@ -1,0 +1,5 @@
+mod Equations
+pub mod Lookups
+pub mod Noting
+pub mod Firsts
+pub mod Tags
