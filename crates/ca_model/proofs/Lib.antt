@@ -61,3 +61,9 @@ pub mod EnabledThreads
 pub mod RunnerEnds
 pub mod StraightLines
 pub mod FirstFaults
+pub mod JudgedExpressions
+pub mod ExpressionBounds
+pub mod OperandBounds
+pub mod ExpressionsFit
+pub mod EmptyFaults
+pub mod ExpressionsThere
