@@ -67,3 +67,10 @@ pub mod OperandBounds
 pub mod ExpressionsFit
 pub mod EmptyFaults
 pub mod ExpressionsThere
+pub mod ActBounds
+pub mod ToldStatements
+pub mod Surroundings
+pub mod ActsFit
+pub mod EachItem
+pub mod LocalsFit
+pub mod StatementsFit
