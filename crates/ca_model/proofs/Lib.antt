@@ -74,3 +74,11 @@ pub mod ActsFit
 pub mod EachItem
 pub mod LocalsFit
 pub mod StatementsFit
+pub mod FunctionsFit
+pub mod TypedFields
+pub mod KnownSoFar
+pub mod GlobalsKnown
+pub mod SignaturesKnown
+pub mod DeclarationsKnown
+pub mod DefinitionsFound
+pub mod NamesKnown

@@ -72,16 +72,19 @@ module _ (t : Typed) where
   pub plain_tells : (c : Inside) (x : TypedStmt) (fs : List TypeFault) → Fine t c → ((n : ℕ) → c.count ≤ n → fs ≡ [] → EachOf (GoodItem n) (x ∷ [])) → Tells c (plain c x fs)
   plain_tells c x fs h each none = record { rises = omega arith; fine = h; items = λ n le. each n le none }
 
-  pub then_tells : (c : Inside) (x : Told) (f : Inside → Told) → Tells c x → ((d : Inside) → Fine t d → Tells d (f d)) → Tells c (and_then x f)
-  then_tells c x f h more none =
+  pub then_at : (c : Inside) (x : Told) (f : Inside → Told) → Tells c x → (Well c x → Tells x.behind (f x.behind)) → Tells c (and_then x f)
+  then_at c x f h more none =
       let parts = none_in x.faults (f x.behind).faults none in
       let w = h parts.0 in
-      let v = more x.behind w.fine parts.1 in
+      let v = more w parts.1 in
       record {
         rises = let a = w.rises in let b = v.rises in omega arith;
         fine = v.fine;
         items = λ n le. each_of_both (GoodItem n) x.stmts (f x.behind).stmts (w.items n (let b = v.rises in omega arith)) (v.items n le);
       }
+
+  pub then_tells : (c : Inside) (x : Told) (f : Inside → Told) → Tells c x → ((d : Inside) → Fine t d → Tells d (f d)) → Tells c (and_then x f)
+  then_tells c x f h more = then_at c x f h (λ w. more x.behind w.fine)
 
   -- ---- a local behind its declarator
 
