@@ -40,8 +40,9 @@ use Rattle.ca_model.specs.typing.Calls.{main_name, signature_of, takes_result, i
 use Rattle.ca_model.specs.typing.RightSides.{count_or_one, right_faults, set_act}
 use Rattle.ca_model.specs.typing.LibraryCalls.{mutex_of, or_first, is_thread, thread_local, var_or_first, is_void_pointer, only_void_pointer, is_thread_function, library_faults, library_act}
 use Rattle.ca_model.specs.typing.SimpleStatements.{simple_faults, simple_act}
+use Rattle.ca_model.proofs.MissingAnswers.{also_if, also_each}
 use Rattle.ca_model.proofs.ExpressionBounds.{fits_num, local_below}
-use Rattle.ca_model.proofs.OperandBounds.{also_if, also_each, FitsOperand}
+use Rattle.ca_model.proofs.OperandBounds.{FitsOperand}
 use Rattle.ca_model.proofs.ExpressionsFit.{operand_fits, value_in_fits}
 use Rattle.ca_model.proofs.EmptyFaults.{none_in, true_if, place_there}
 use Rattle.ca_model.proofs.ExpressionsThere.{operand_there}

@@ -4,7 +4,7 @@ use Rattle.std.specs.Prelude.{◌||◌, slice_get, if◌then◌else◌}
 use Rattle.std.specs.Option.{is_some, option_map}
 use Rattle.std.specs.List.{AllByRecursion, list_any}
 use Rattle.std.specs.Str.{bytes_eq}
-use Rattle.std.proofs.lemmas.Bool.{eq-eqb}
+use Rattle.std.proofs.lemmas.Bool.{eq-eqb, or_left, or_right}
 use Rattle.std.proofs.lemmas.List.{map-append}
 use Rattle.std.proofs.lemmas.Option.{slice_get-map}
 use Rattle.std.proofs.lemmas.Slice.Eq.{bytes_eq-Decides}
@@ -23,6 +23,30 @@ use Rattle.ca_model.specs.typing.Globals.{with_mutex, with_thread, with_variable
 use Rattle.ca_model.specs.typing.Signatures.{with_signature}
 use Rattle.ca_model.specs.typing.Functions.{functions_of, told_in, with_function}
 use Rattle.ca_model.specs.typing.Programs.{with_top, definitions}
+use Rattle.ca_model.proofs.DeclarationsKnown.{Belongs}
+
+abbrev pub names : List Function → List (List ℕ)
+names fs = map (λ (f : Function). f.name.text) fs
+
+-- ---- each definition belongs to the program
+
+body_listed : (b : Bool) (x : List ℕ) (f : Function) (fs : List Function) → list_any (λ m. bytes_eq x m) (names fs) ≡ true → list_any (λ m. bytes_eq x m) (names (if b then f ∷ fs else fs)) ≡ true
+body_listed true x f fs h = or_right (bytes_eq x f.name.text) (list_any (λ m. bytes_eq x m) (names fs)) h
+body_listed false x f fs h = h
+
+-- what is named in a later part is named in the whole
+abbrev pub Within : List Top → List (List ℕ) → Type 0
+Within xs all = (x : List ℕ) → list_any (λ m. bytes_eq x m) (names (definitions xs)) ≡ true → list_any (λ m. bytes_eq x m) all ≡ true
+
+first_listed : (f : Function) (fs : List Function) (b : Bool) → b ≡ true → list_any (λ m. bytes_eq f.name.text m) (names (if b then f ∷ fs else fs)) ≡ true
+first_listed f fs true is = or_left (bytes_eq f.name.text f.name.text) (list_any (λ m. bytes_eq f.name.text m) (names fs)) ((bytes_eq-Decides f.name.text f.name.text).1 refl)
+first_listed f fs false is = absurd cc
+
+pub belong : (xs : List Top) (all : List (List ℕ)) → Within xs all → AllByRecursion (Belongs all) xs
+belong [] all h = tt
+belong (top.Struct a ∷ xs) all h = (tt, belong xs all h)
+belong (top.Globals a ∷ xs) all h = (tt, belong xs all h)
+belong (top.Function f ∷ xs) all h = ((λ body. h f.name.text (first_listed f (definitions xs) (is_some f.body) body)), belong xs all (λ x at. h x (body_listed (is_some f.body) x f (definitions xs) at)))
 
 -- ---- how many parameters each has
 
@@ -65,9 +89,6 @@ pub record FoundAt (P : Function → Type 0) (x : List ℕ) (fs : List Function)
   pub at : ℕ
   pub is : place ≡ k + at
   pub count : slice_get (counts fs) at ≡ Some (length definition.parameters)
-
-abbrev names : List Function → List (List ℕ)
-names fs = map (λ (f : Function). f.name.text) fs
 
 found_by : (P : Function → Type 0) (x : List ℕ) (f : Function) (fs : List Function) (k : ℕ) (b : Bool) → (b ≡ true → x ≡ f.name.text) → P f → (b || list_any (λ m. bytes_eq x m) (names fs)) ≡ true
     → (list_any (λ m. bytes_eq x m) (names fs) ≡ true → FoundAt P x fs (k + 1) (defined_as (k + 1) x (names fs))) → FoundAt P x (f ∷ fs) k (if b then k else defined_as (k + 1) x (names fs))

@@ -11,13 +11,9 @@ use Rattle.ca_model.specs.typing.Places.{indexed, struct_place, struct_behind}
 use Rattle.ca_model.specs.typing.Operators.{binary}
 use Rattle.ca_model.specs.typing.Expressions.{Judged, both, named, by_unary, chosen, exp_step, judged}
 use Rattle.ca_model.specs.typing.Uses.{value_or_zero, value_in}
+use Rattle.ca_model.proofs.MissingAnswers.{also_if, both_if, weaker}
 use Rattle.ca_model.proofs.ExpressionBounds.{Fits, deeper, fits_num, fits_null}
-use Rattle.ca_model.proofs.OperandBounds.{also_if, FitsOperand, IfFits, FitsValue, value_fits, unary_fits, binary_fits, indexed_fits, struct_place_fits, struct_behind_fits, chosen_fits, Reaches, named_fits}
-
-both_if : {A B : Type 0} (P : A → Type 0) (Q : B → Type 0) (a : Option A) (b : Option B) → IfSome a P → IfSome b Q → IfSome (both a b) (λ z. P z.0 × Q z.1)
-both_if P Q None b h i = tt
-both_if P Q (Some x) None h i = tt
-both_if P Q (Some x) (Some y) h i = (h, i)
+use Rattle.ca_model.proofs.OperandBounds.{FitsOperand, IfFits, FitsValue, value_fits, unary_fits, binary_fits, indexed_fits, struct_place_fits, struct_behind_fits, chosen_fits, Reaches, named_fits}
 
 -- each visible name keeps within bounds
 abbrev pub Sees : ℕ → ℕ → Scope → Type 0
@@ -71,12 +67,8 @@ module _ (n m : ℕ) (s : Scope) (sees : Sees n m s) where
   value_or_zero_fits d None le h = fits_num n m d (pos 0) le
   value_or_zero_fits d (Some v) le h = h
 
-  weaker_value : (c d : ℕ) (v : Option Typed_value) → c ≤ d → IfSome v (FitsValue n m c) → IfSome v (FitsValue n m d)
-  weaker_value c d None le h = tt
-  weaker_value c d (Some v) le h = deeper n m c d v.1 le h
-
   deeper_operand : (c d : ℕ) (x : Operand) → c ≤ d → FitsOperand n m c x → IfSome (value_of x) (FitsValue n m d)
-  deeper_operand c d x le h = weaker_value c d (value_of x) le (value_fits n m c x h)
+  deeper_operand c d x le h = weaker (FitsValue n m c) (FitsValue n m d) (value_of x) (λ v. deeper n m c d v.1 le) (value_fits n m c x h)
 
   -- a value in an expression that is at most d deep
   pub value_in_fits : (d : ℕ) (a : Exp) → 1 ≤ d → depth a ≤ d → Fits n m d (value_in s a)

@@ -1,14 +1,10 @@
 -- A function in which nothing is wrong: each of its items keeps within bounds.
-use Rattle.std.proofs.Common.{◌≡◌, ◌≤◌, ℕ, ◌+◌, Bool, true, false, List, [], ◌∷◌, Option, Some, None, arith, refl, sym, ◌∙◌, subst}
+use Rattle.std.proofs.Common.{◌≡◌, ◌≤◌, ℕ, ◌+◌, Bool, true, false, List, [], ◌∷◌, Option, Some, None, arith, refl, ◌∙◌}
 use Rattle.std.specs.Prelude.{nat_lt, All, IfSome, if◌then◌else◌}
 use Rattle.std.specs.Option.{is_some}
 use Rattle.std.proofs.lemmas.List.Elements.{All-nil, All-cons, All-append}
 use Rattle.ca_tree.specs.declared.numbers.StructId.{StructId}
 use Rattle.ca_tree.specs.declared.tree.Name.{Name}
-use Rattle.ca_tree.specs.declared.tree.Base.{Base}
-use Rattle.ca_tree.specs.declared.tree.Base.TheVariants as base
-use Rattle.ca_tree.specs.declared.tree.ParameterType.{ParameterType}
-use Rattle.ca_tree.specs.declared.tree.ParameterType.TheVariants as parameter
 use Rattle.ca_tree.specs.declared.tree.Parameter.{Parameter}
 use Rattle.ca_tree.specs.declared.tree.Body.{Body}
 use Rattle.ca_tree.specs.declared.tree.Function.{Function}
@@ -21,34 +17,18 @@ use Rattle.ca_model.specs.declared.types.ObjectType.{ObjectType}
 use Rattle.ca_model.specs.declared.types.Meaning.{Meaning}
 use Rattle.ca_model.specs.Codes.{Typed}
 use Rattle.ca_model.specs.Sites.{items_in_all, items_of}
-use Rattle.ca_model.specs.typing.Scopes.{StructOf, Scope, Context, find, field_of}
-use Rattle.ca_model.specs.typing.TypeNames.{written_type, type_faults}
+use Rattle.ca_model.specs.typing.Scopes.{Scope, Context, find, field_of}
 use Rattle.ca_model.specs.typing.Bodies.{Inside, Told, in_order}
 use Rattle.ca_model.specs.typing.Locals.{with_locals, most_locals, declared}
-use Rattle.ca_model.specs.typing.Signatures.{of_parameter, parameter_type, of_parameter_faults, parameter_faults, result_type}
+use Rattle.ca_model.specs.typing.Signatures.{parameter_type, of_parameter_faults, parameter_faults, result_type}
 use Rattle.ca_model.specs.typing.Functions.{begun, with_parameter, a_parameter, parameters_told, body_told, typed_function, functions_of, told_in}
+use Rattle.ca_model.proofs.TypesThere.{parameter_there}
 use Rattle.ca_model.proofs.EmptyFaults.{none_in}
 use Rattle.ca_model.proofs.ExpressionsThere.{Typed_field}
 use Rattle.ca_model.proofs.Surroundings.{Means, Fine}
 use Rattle.ca_model.proofs.EachItem.{each_of_none}
-use Rattle.ca_model.proofs.LocalsFit.{type_there, GoodItem, Well, Tells, nothing_tells, then_at, declared_fine, declared_count}
+use Rattle.ca_model.proofs.LocalsFit.{GoodItem, Well, Tells, nothing_tells, then_at, declared_fine, declared_count}
 use Rattle.ca_model.proofs.StatementsFit.{body_tells}
-
--- where the structs are the same, a type is there, and a fault of it
-abbrev over : Scope → List StructOf → Scope
-over s xs = record s { structs = xs }
-
-faults_over : (s : Scope) (xs : List StructOf) (b : Base) → type_faults (over s xs) b ≡ [] → s.structs ≡ xs → type_faults s b ≡ []
-faults_over s xs base.Int none same = refl
-faults_over s xs (base.Struct n) none same = subst (λ ys. type_faults (over s ys) (base.Struct n) ≡ []) (sym same) none
-
-pub type_there_over : (s u : Scope) (b : Base) (k : ℕ) → s.structs ≡ u.structs → type_faults u b ≡ [] → is_some (written_type s b k) ≡ true
-type_there_over s u base.Int k same none = refl
-type_there_over s u (base.Struct n) k same none = type_there s (base.Struct n) k (faults_over s u.structs (base.Struct n) none same)
-
-parameter_there : (s u : Scope) (a : ParameterType) → s.structs ≡ u.structs → of_parameter_faults u a ≡ [] → is_some (of_parameter s a) ≡ true
-parameter_there s u parameter.Pointer same none = refl
-parameter_there s u (parameter.Value v) same none = type_there_over s u v.base v.stars same none
 
 structs_by : (b : Bool) (c : Inside) (ls : List (List ℕ × Meaning)) → (if b then with_locals c ls (c.count + 1) else record c { count = c.count + 1 }).context.scope.structs ≡ c.context.scope.structs
 structs_by true c ls = refl

@@ -32,7 +32,7 @@ use Rattle.ca_model.specs.typing.Structs.{fields, base_faults, twice_among, name
 use Rattle.ca_model.specs.typing.Globals.{with_name, name_faults, with_mutex, element_count, global_means, start_of, zero_value, length_of, first_value, with_global, with_thread, with_variable, with_globals}
 use Rattle.ca_model.proofs.EmptyFaults.{none_in}
 use Rattle.ca_model.proofs.TypedFields.{EachTyped, fields_typed, tag_typed}
-use Rattle.ca_model.proofs.FunctionsFit.{type_there_over}
+use Rattle.ca_model.proofs.TypesThere.{type_there_over}
 use Rattle.ca_model.proofs.KnownSoFar.{found_left, new_or_old, Grows, Declared, OpensWithNumber, declared_on, Goes, goes_self, goes_on, KeepsFaults, each_keeps_faults, each_keeps}
 
 -- ---- structs

@@ -62,10 +62,12 @@ pub mod RunnerEnds
 pub mod StraightLines
 pub mod FirstFaults
 pub mod JudgedExpressions
+pub mod MissingAnswers
 pub mod ExpressionBounds
 pub mod OperandBounds
 pub mod ExpressionsFit
 pub mod EmptyFaults
+pub mod TypesThere
 pub mod ExpressionsThere
 pub mod ActBounds
 pub mod ToldStatements

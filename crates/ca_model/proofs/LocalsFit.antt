@@ -6,7 +6,6 @@ use Rattle.std.specs.Str.{bytes_eq}
 use Rattle.ca_tree.specs.declared.text.Pos.{Pos}
 use Rattle.ca_tree.specs.declared.tree.Name.{Name}
 use Rattle.ca_tree.specs.declared.tree.Base.{Base}
-use Rattle.ca_tree.specs.declared.tree.Base.TheVariants as base
 use Rattle.ca_tree.specs.declared.tree.Right.{Right}
 use Rattle.ca_tree.specs.declared.tree.LocalDeclarator.{LocalDeclarator}
 use Rattle.ca_tree.specs.declared.tree.ThreadLocal.{ThreadLocal}
@@ -24,33 +23,19 @@ use Rattle.ca_model.specs.declared.types.Meaning.TheVariants as means
 use Rattle.ca_model.specs.Codes.{Typed}
 use Rattle.ca_model.specs.typing.Faults.{given}
 use Rattle.ca_model.specs.typing.Types.{thread}
-use Rattle.ca_model.specs.typing.Values.{also}
-use Rattle.ca_model.specs.typing.Scopes.{Scope, struct_numbered, find}
+use Rattle.ca_model.specs.typing.Scopes.{find}
 use Rattle.ca_model.specs.typing.TypeNames.{written_type, type_faults}
 use Rattle.ca_model.specs.typing.RightSides.{right_faults}
 use Rattle.ca_model.specs.typing.Bodies.{Inside, Told, nothing, and_then, in_order}
 use Rattle.ca_model.specs.typing.Locals.{with_locals, most_locals, declared, local_aim, first_act, a_local, a_thread, some_locals}
 use Rattle.ca_model.specs.typing.Statements.{plain}
-use Rattle.ca_model.proofs.EmptyFaults.{none_in, there_if}
+use Rattle.ca_model.proofs.MissingAnswers.{if_found}
+use Rattle.ca_model.proofs.TypesThere.{type_there}
+use Rattle.ca_model.proofs.EmptyFaults.{none_in}
 use Rattle.ca_model.proofs.ActBounds.{GoodAct}
 use Rattle.ca_model.proofs.Surroundings.{Means, Surrounds, Fine, surrounds, fine_more}
 use Rattle.ca_model.proofs.ActsFit.{good_right}
 use Rattle.ca_model.proofs.EachItem.{EachOf, each_of_none, each_of_both, each_of_item}
-
--- ---- types that are written
-
-also_there : {A B : Type 0} (o : Option A) (f : A → B) → is_some o ≡ true → is_some (also o (λ x. Some (f x))) ≡ true
-also_there None f h = absurd cc
-also_there (Some x) f h = refl
-
--- a type in which nothing is wrong isn't refused
-pub type_there : (s : Scope) (b : Base) (k : ℕ) → type_faults s b ≡ [] → is_some (written_type s b k) ≡ true
-type_there s base.Int k none = refl
-type_there s (base.Struct n) k none = also_there (struct_numbered 0 n.text s.structs) _ (there_if _ (struct_numbered 0 n.text s.structs) none)
-
-pub if_found : {A : Type 0} (P : A → Type 0) (b : Bool) (x : A) (o : Option A) → P x → IfSome o P → IfSome (if b then Some x else o) P
-if_found P true x o h more = h
-if_found P false x o h more = more
 
 module _ (t : Typed) where
   abbrev pub GoodItem : ℕ → Item → Type 0

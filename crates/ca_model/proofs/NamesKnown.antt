@@ -1,12 +1,9 @@
 -- What names mean in a typed program: each act names what is there, and keeps within bounds; each global opens with a number.
-use Rattle.std.proofs.Common.{◌≡◌, ℕ, Bool, true, false, List, [], ◌∷◌, map, length, Option, Some, None, arith, refl, sym, ◌∙◌, ap, subst, inl, inr}
-use Rattle.std.specs.Prelude.{◌||◌, slice_get, Contains, All, IfSome, if◌then◌else◌}
-use Rattle.std.specs.Option.{is_some}
+use Rattle.std.proofs.Common.{◌≡◌, ℕ, true, List, [], ◌∷◌, length, Option, Some, arith, refl, sym, ◌∙◌, ap, subst, inl, inr}
+use Rattle.std.specs.Prelude.{slice_get, Contains, All}
 use Rattle.std.specs.List.{AllByRecursion, list_any}
 use Rattle.std.specs.Str.{bytes_eq}
 use Rattle.std.proofs.lemmas.List.Elements.{All-nil, All-append, All-contains, Contains-append_cases}
-use Rattle.std.proofs.lemmas.Slice.Eq.{bytes_eq-Decides}
-use Rattle.ca_tree.specs.declared.tree.Function.{Function}
 use Rattle.ca_tree.specs.declared.tree.Top.{Top}
 use Rattle.ca_tree.specs.declared.tree.Top.TheVariants as top
 use Rattle.ca_tree.specs.declared.tree.Program.{Program}
@@ -32,6 +29,7 @@ use Rattle.ca_model.specs.typing.Structs.{with_struct}
 use Rattle.ca_model.specs.typing.Globals.{with_globals}
 use Rattle.ca_model.specs.typing.Programs.{with_top, definitions, at_start, known}
 use Rattle.ca_model.specs.typing.Typing.{typed_by, IsTyping}
+use Rattle.ca_model.proofs.MissingAnswers.{if_so, so_if}
 use Rattle.ca_model.proofs.Members.{in_none, at_head, at_tail}
 use Rattle.ca_model.proofs.ActBounds.{knows_good, within_good, bounds_good}
 use Rattle.ca_model.proofs.Surroundings.{Takes_arguments, Means}
@@ -42,41 +40,7 @@ use Rattle.ca_model.proofs.KnownSoFar.{Grows, Declared, OpensWithNumber, Sound, 
 use Rattle.ca_model.proofs.GlobalsKnown.{inside_some, struct_goes, globals_go}
 use Rattle.ca_model.proofs.SignaturesKnown.{declares}
 use Rattle.ca_model.proofs.DeclarationsKnown.{clean, Belongs, function_goes, top_keeps, all_go, RightFor, definitions_right}
-use Rattle.ca_model.proofs.DefinitionsFound.{globals_add_none, typed_counts, counts, counts_follow, FoundAt, found, takes_at}
-
-if_so : {A : Type 0} (P : A → Type 0) (o : Option A) → ((x : A) → o ≡ Some x → P x) → IfSome o P
-if_so P None k = tt
-if_so P (Some x) k = k x refl
-
-so_if : {A : Type 0} (P : A → Type 0) (o : Option A) (x : A) → o ≡ Some x → IfSome o P → P x
-so_if P o x is h = subst (λ p. IfSome p P) is h
-
--- ---- each definition belongs to the program
-
-body_listed : (b : Bool) (x : List ℕ) (f : Function) (fs : List Function) → list_any (λ m. bytes_eq x m) (map (λ (f : Function). f.name.text) fs) ≡ true → list_any (λ m. bytes_eq x m) (map (λ (f : Function). f.name.text) (if b then f ∷ fs else fs)) ≡ true
-body_listed true x f fs h = later (bytes_eq x f.name.text) h
-  where
-    later : (b : Bool) {c : Bool} → c ≡ true → (b || c) ≡ true
-    later true h = refl
-    later false h = h
-body_listed false x f fs h = h
-
-abbrev names : List Function → List (List ℕ)
-names fs = map (λ (f : Function). f.name.text) fs
-
--- what is named in a later part is named in the whole
-abbrev Within : List Top → List (List ℕ) → Type 0
-Within xs all = (x : List ℕ) → list_any (λ m. bytes_eq x m) (names (definitions xs)) ≡ true → list_any (λ m. bytes_eq x m) all ≡ true
-
-first_listed : (f : Function) (fs : List Function) (b : Bool) → b ≡ true → list_any (λ m. bytes_eq f.name.text m) (names (if b then f ∷ fs else fs)) ≡ true
-first_listed f fs true is = subst (λ b. (b || list_any (λ m. bytes_eq f.name.text m) (names fs)) ≡ true) (sym ((bytes_eq-Decides f.name.text f.name.text).1 refl)) refl
-first_listed f fs false is = absurd cc
-
-belong : (xs : List Top) (all : List (List ℕ)) → Within xs all → AllByRecursion (Belongs all) xs
-belong [] all h = tt
-belong (top.Struct a ∷ xs) all h = (tt, belong xs all h)
-belong (top.Globals a ∷ xs) all h = (tt, belong xs all h)
-belong (top.Function f ∷ xs) all h = ((λ body. h f.name.text (first_listed f (definitions xs) (is_some f.body) body)), belong xs all (λ x at. h x (body_listed (is_some f.body) x f (definitions xs) at)))
+use Rattle.ca_model.proofs.DefinitionsFound.{names, belong, globals_add_none, typed_counts, counts, counts_follow, FoundAt, found, takes_at}
 
 -- ---- what names mean at the end
 

@@ -24,21 +24,8 @@ use Rattle.ca_model.specs.typing.Places.{element, pointed, address, indexed, str
 use Rattle.ca_model.specs.typing.Operators.{an_int, negated, denied, are_comparable, int_op, equality, displaced, sum, logical_exp, logical, binary_values, binary}
 use Rattle.ca_model.specs.typing.Scopes.{Scope, field_of}
 use Rattle.ca_model.specs.typing.Expressions.{of_type, named, by_unary, field_place, chosen}
+use Rattle.ca_model.proofs.MissingAnswers.{also_if, also_each, if_tested}
 use Rattle.ca_model.proofs.ExpressionBounds.{Fits, FitsPlace, deeper, fits_local, fits_global, fits_load, fits_address, fits_negate, fits_not, fits_binary, fits_and, fits_or, fits_element, fits_plain, fits_field}
-
--- ---- answers that may be missing
-
-pub also_if : {A B : Type 0} (P : A → Type 0) (Q : B → Type 0) (o : Option A) (f : A → Option B) → IfSome o P → ((x : A) → P x → IfSome (f x) Q) → IfSome (also o f) Q
-also_if P Q None f h k = tt
-also_if P Q (Some x) f h k = k x h
-
-pub also_each : {A B : Type 0} (Q : B → Type 0) (o : Option A) (f : A → Option B) → ((x : A) → IfSome (f x) Q) → IfSome (also o f) Q
-also_each Q None f k = tt
-also_each Q (Some x) f k = k x
-
-pub if_tested : {A : Type 0} (Q : A → Type 0) (b : Bool) (o : Option A) → IfSome o Q → IfSome (if b then o else None) Q
-if_tested Q true o h = h
-if_tested Q false o h = tt
 
 module _ (n m : ℕ) where
   abbrev pub FitsOperand : ℕ → Operand → Type 0

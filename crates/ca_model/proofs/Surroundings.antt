@@ -1,5 +1,5 @@
 -- What a place in a typed source knows of the names that are visible there.
-use Rattle.std.proofs.Common.{◌≡◌, ◌≤◌, ◌<◌, ℕ, true, List, length, Option, Some, None, arith}
+use Rattle.std.proofs.Common.{◌≡◌, ◌≤◌, ◌<◌, ℕ, true, List, length, arith}
 use Rattle.std.specs.Prelude.{slice_get, IfSome}
 use Rattle.std.specs.Option.{is_some}
 use Rattle.ca_tree.specs.declared.numbers.StructId.{StructId}
@@ -7,19 +7,12 @@ use Rattle.ca_model.specs.declared.types.Meaning.{Meaning}
 use Rattle.ca_model.specs.declared.types.Meaning.TheVariants as means
 use Rattle.ca_model.specs.Codes.{Typed}
 use Rattle.ca_model.specs.Bounds.{takes}
-use Rattle.ca_model.specs.typing.Scopes.{FunctionOf, Context, find, or_else, meaning, field_of, defined_as}
+use Rattle.ca_model.specs.typing.Scopes.{FunctionOf, Context, find, meaning, field_of, defined_as}
 use Rattle.ca_model.specs.typing.Bodies.{Inside, inner, left}
+use Rattle.ca_model.proofs.MissingAnswers.{weaker, or_else_if}
 use Rattle.ca_model.proofs.OperandBounds.{Reaches}
 use Rattle.ca_model.proofs.ExpressionsFit.{Sees}
 use Rattle.ca_model.proofs.ExpressionsThere.{HasType, Typed_field, Knows_types}
-
-pub weaker : {A : Type 0} (P Q : A → Type 0) (o : Option A) → ((x : A) → P x → Q x) → IfSome o P → IfSome o Q
-weaker P Q None k h = tt
-weaker P Q (Some x) k h = k x h
-
-pub or_else_if : {A : Type 0} (P : A → Type 0) (a b : Option A) → IfSome a P → IfSome b P → IfSome (or_else a b) P
-or_else_if P None b h i = i
-or_else_if P (Some x) b h i = h
 
 module _ (t : Typed) where
   -- the typed function of a name takes as many arguments as its first declaration says

@@ -13,7 +13,8 @@ use Rattle.ca_model.specs.typing.TypeNames.{type_faults}
 use Rattle.ca_model.specs.typing.Structs.{field, fields, base_faults, is_tag, with_structs, with_tag}
 use Rattle.ca_model.proofs.EmptyFaults.{none_in}
 use Rattle.ca_model.proofs.ExpressionsThere.{Typed_field}
-use Rattle.ca_model.proofs.LocalsFit.{type_there, if_found}
+use Rattle.ca_model.proofs.MissingAnswers.{if_found}
+use Rattle.ca_model.proofs.TypesThere.{type_there}
 
 abbrev pub AllTyped : List (List ℕ × Option ObjectType) → Type 0
 AllTyped [] = Unit {0}
