@@ -44,7 +44,8 @@ use Rattle.ca_model.proofs.MissingAnswers.{also_if, also_each}
 use Rattle.ca_model.proofs.ExpressionBounds.{fits_num, local_below}
 use Rattle.ca_model.proofs.OperandBounds.{FitsOperand}
 use Rattle.ca_model.proofs.ExpressionsFit.{operand_fits, value_in_fits}
-use Rattle.ca_model.proofs.EmptyFaults.{none_in, true_if, place_there}
+use Rattle.ca_model.proofs.NoFaults.{held_by_none}
+use Rattle.ca_model.proofs.EmptyFaults.{none_in, place_there}
 use Rattle.ca_model.proofs.ExpressionsThere.{operand_there}
 use Rattle.ca_model.proofs.ActBounds.{GoodExp, GoodLocal, GoodTarget, GoodAct}
 use Rattle.ca_model.proofs.Surroundings.{Takes_arguments, Means, Surrounds, sees, knows_types}
@@ -112,7 +113,7 @@ module _ (t : Typed) (n : ℕ) (words : Words) (k : Context) (here : Surrounds t
   function_takes : (a : Option Aim) (c : Call) (o : Option FunctionOf) → IfSome o (Takes_arguments t k.defined c.name.text) → known_call_faults a c (also o (λ f. Some f.first)) ≡ [] → TakesSo c.name.text (length c.arguments)
   function_takes a c None h none = absurd cc
   function_takes a c (Some f) h none =
-      subst (TakesSo c.name.text) (sym (callable_parameters a c.name.text (length c.arguments) f.first (true_if (is_callable a c.name.text (length c.arguments) (Some f.first)) _ none))) h
+      subst (TakesSo c.name.text) (sym (callable_parameters a c.name.text (length c.arguments) f.first (held_by_none (is_callable a c.name.text (length c.arguments) (Some f.first)) _ none))) h
 
   meaning_takes : (a : Option Aim) (c : Call) (w : Option Meaning) (x : TypeFault) → IfSome w (MeansHere c.name.text) → if_none x w ≡ [] → given w (λ m. known_call_faults a c (signature_of k (Some m))) ≡ [] → TakesSo c.name.text (length c.arguments)
   meaning_takes a c None x h known none = absurd cc
@@ -163,7 +164,7 @@ module _ (t : Typed) (n : ℕ) (words : Words) (k : Context) (here : Surrounds t
 
   thread_takes : (x : List ℕ) (o : Option FunctionOf) (q : TypeFault) → IfSome o (Takes_arguments t k.defined x) → unless (is_thread_function (also o (λ f. Some f.first))) q ≡ [] → TakesSo x 1
   thread_takes x None q h none = absurd cc
-  thread_takes x (Some f) q h none = subst (TakesSo x) (thread_parameter f.first (true_if (is_thread_function (Some f.first)) q none)) h
+  thread_takes x (Some f) q h none = subst (TakesSo x) (thread_parameter f.first (held_by_none (is_thread_function (Some f.first)) q none)) h
 
   created_takes : (x : List ℕ) (w : Option Meaning) (p q : TypeFault) → IfSome w (MeansHere x) → if_none p w ≡ [] → given w (λ m. unless (is_thread_function (signature_of k (Some m))) q) ≡ [] → TakesSo x 1
   created_takes x None p q h known none = absurd cc

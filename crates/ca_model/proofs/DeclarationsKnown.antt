@@ -17,7 +17,8 @@ use Rattle.ca_model.specs.typing.Globals.{with_globals}
 use Rattle.ca_model.specs.typing.Functions.{told_in, with_function}
 use Rattle.ca_model.specs.typing.Known.{Known, with_each}
 use Rattle.ca_model.specs.typing.Programs.{with_top, definitions}
-use Rattle.ca_model.proofs.EmptyFaults.{none_in, true_if}
+use Rattle.ca_model.proofs.NoFaults.{held_by_none}
+use Rattle.ca_model.proofs.EmptyFaults.{none_in}
 use Rattle.ca_model.proofs.TypedFields.{EachTyped}
 use Rattle.ca_model.proofs.KnownSoFar.{Grows, Declared, Sound, declared_on, Goes, goes_self, goes_on, KeepsFaults, each_keeps_faults, each_keeps}
 use Rattle.ca_model.proofs.GlobalsKnown.{struct_keeps, struct_goes, globals_keep, globals_go}
@@ -42,9 +43,9 @@ clean k f none =
     record {
       before = all.0;
       parameters = (none_in (result_faults k.context.scope f.result) (parameter_faults k.context.scope f.parameters) two.0).1;
-      new = true_if (is_new k.context f) _ two.1;
-      right = true_if (is_right k.context f (signature k.context.scope f)) _ three.1;
-      defined = true_if (is_some f.body || is_defined k.context f.name.text) _ four.1;
+      new = held_by_none (is_new k.context f) _ two.1;
+      right = held_by_none (is_right k.context f (signature k.context.scope f)) _ three.1;
+      defined = held_by_none (is_some f.body || is_defined k.context f.name.text) _ four.1;
       told = both.1;
     }
 

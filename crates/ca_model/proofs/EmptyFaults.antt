@@ -1,24 +1,20 @@
--- What the lists of faults say where they are empty.
-use Rattle.std.proofs.Common.{◌≡◌, Bool, true, false, List, [], ◌∷◌, ◌++◌, Option, Some, None, refl}
+-- What is there where nothing is wrong: the answer of a rule, and a place.
+use Rattle.std.proofs.Common.{◌≡◌, Bool, true, false, List, [], ◌++◌, Option, Some, None, refl}
 use Rattle.std.specs.Option.{is_some}
 use Rattle.ca_tree.specs.declared.text.Pos.{Pos}
 use Rattle.ca_model.specs.declared.types.TypeFault.{TypeFault}
 use Rattle.ca_model.specs.declared.types.Operand.{Operand}
-use Rattle.ca_model.specs.typing.Faults.{if_none, unless, given}
+use Rattle.ca_model.specs.typing.Faults.{if_none, given}
 use Rattle.ca_model.specs.typing.Values.{also}
 use Rattle.ca_model.specs.typing.Expressions.{Judged, no_place}
+use Rattle.ca_model.proofs.NoFaults.{none_left, none_right}
 
 pub none_in : {A : Type 0} (xs ys : List A) → xs ++ ys ≡ [] → (xs ≡ []) × (ys ≡ [])
-none_in [] ys h = (refl, h)
-none_in (x ∷ xs) ys h = absurd cc
+none_in xs ys h = (none_left xs ys h, none_right xs ys h)
 
 pub there_if : {A : Type 0} (x : TypeFault) (o : Option A) → if_none x o ≡ [] → is_some o ≡ true
 there_if x None h = absurd cc
 there_if x (Some a) h = refl
-
-pub true_if : (b : Bool) (x : TypeFault) → unless b x ≡ [] → b ≡ true
-true_if true x h = refl
-true_if false x h = absurd cc
 
 -- a rule has an answer where its operand is there and nothing is wrong
 pub rule_there : {A B : Type 0} (o : Option A) (rule : A → Option B) (wrong : A → List TypeFault) → ((x : A) → wrong x ≡ [] → is_some (rule x) ≡ true) → is_some o ≡ true → given o wrong ≡ [] → is_some (also o rule) ≡ true

@@ -61,6 +61,7 @@ pub mod EnabledThreads
 pub mod RunnerEnds
 pub mod StraightLines
 pub mod FirstFaults
+pub mod NoFaults
 pub mod JudgedExpressions
 pub mod MissingAnswers
 pub mod ExpressionBounds
