@@ -61,3 +61,4 @@ pub mod EnabledThreads
 pub mod RunnerEnds
 pub mod StraightLines
 pub mod FirstFaults
+pub mod ToldStatements
