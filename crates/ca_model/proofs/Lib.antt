@@ -62,3 +62,6 @@ pub mod RunnerEnds
 pub mod StraightLines
 pub mod FirstFaults
 pub mod ToldStatements
+pub mod NoFaults
+pub mod NumberedLists
+pub mod PlacedItems
