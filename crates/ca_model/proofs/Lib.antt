@@ -65,3 +65,4 @@ pub mod ToldStatements
 pub mod NoFaults
 pub mod NumberedLists
 pub mod PlacedItems
+pub mod ToldItems
