@@ -66,3 +66,4 @@ pub mod NoFaults
 pub mod NumberedLists
 pub mod PlacedItems
 pub mod ToldItems
+pub mod LocalCounts
