@@ -67,3 +67,5 @@ pub mod NumberedLists
 pub mod PlacedItems
 pub mod ToldItems
 pub mod LocalCounts
+pub mod CountedKnowns
+pub mod CountedPrograms

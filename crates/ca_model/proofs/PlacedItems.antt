@@ -29,7 +29,7 @@ Numbered n is m = Ascends item_number (suc n) is (suc m)
 abbrev pub KnowsEach : Typed → List Item → Type 0
 KnowsEach p is = (i : Item) → Contains is i → knows p i.act ≡ true
 
-knows_left : (p : Typed) (is js : List Item) → KnowsEach p (is ++ js) → KnowsEach p is
+pub knows_left : (p : Typed) (is js : List Item) → KnowsEach p (is ++ js) → KnowsEach p is
 knows_left p is js each i c = each i (Contains-append_left is js i c)
 
 knows_right : (p : Typed) (is js : List Item) → KnowsEach p (is ++ js) → KnowsEach p js
