@@ -1,5 +1,5 @@
 -- What is known behind declarations, counted: as many things as the tree counts, in the order of the text, and within the limits where nothing is wrong.
-use Rattle.std.proofs.Common.{◌≡◌, ◌≤◌, ℕ, suc, ◌+◌, ◌*◌, Bool, true, false, not, ◌&&◌, ◌||◌, List, [], ◌∷◌, ◌++◌, map, length, Option, Some, None, refl, sym, ap, ◌∙◌, subst, inl, inr, arith, append_assoc, append-nil, length-append}
+use Rattle.std.proofs.Common.{◌≡◌, ◌≤◌, ℕ, suc, ◌+◌, Bool, true, false, List, [], ◌∷◌, ◌++◌, map, length, refl, sym, ap, ◌∙◌, subst, inl, inr, arith, append_assoc, append-nil, length-append}
 use Rattle.std.specs.Prelude.{Contains, sum_by, nat_le, nat_lt, if◌then◌else◌}
 use Rattle.std.proofs.lemmas.Bool.{and_parts, or_cases, leb-true, ltb-true, le-leb}
 use Rattle.std.proofs.lemmas.List.Sums.{sum_by-append}
@@ -7,18 +7,17 @@ use Rattle.std.proofs.lemmas.List.Elements.{Contains-append_cases}
 use Rattle.ca_tree.specs.Counts.{Totals, one_more_global, one_more_mutex, one_more_struct, one_more_function}
 use Rattle.ca_model.specs.declared.values.Value.{Value}
 use Rattle.ca_model.specs.declared.tree.Act.TheVariants as act
-use Rattle.ca_model.specs.declared.tree.Item.{Item}
 use Rattle.ca_model.specs.declared.tree.Function.{Function}
 use Rattle.ca_model.specs.declared.tree.GlobalStart.{GlobalStart}
 use Rattle.ca_model.specs.declared.types.TypeFault.{TypeFault}
 use Rattle.ca_model.specs.Codes.{Typed}
-use Rattle.ca_model.specs.Sites.{items_in_all, items_of, all_items}
-use Rattle.ca_model.specs.WellFormed.{knows, all_placed, is_placed}
+use Rattle.ca_model.specs.Sites.{items_of, all_items}
+use Rattle.ca_model.specs.WellFormed.{all_placed, is_placed}
 use Rattle.ca_model.specs.typing.Faults.{unless}
 use Rattle.ca_model.specs.typing.Globals.{most_cells, cells_allowed, start_of}
 use Rattle.ca_model.specs.typing.Known.{Known}
 use Rattle.ca_model.proofs.NoFaults.{none_left, none_right, held_by_none}
-use Rattle.ca_model.proofs.Members.{in_none, in_one}
+use Rattle.ca_model.proofs.Members.{in_one}
 use Rattle.ca_model.proofs.NumberedLists.{Ascends, just_one, and_more, how_many}
 use Rattle.ca_model.proofs.PlacedItems.{item_number, Numbered, KnowsEach}
 

@@ -1,7 +1,6 @@
 -- A typed program has as many items, functions, globals and mutexes as its tree, in the order of the text; with its `main`, and within the limits.
-use Rattle.std.proofs.Common.{◌≡◌, ◌≤◌, ◌<◌, ℕ, suc, ◌+◌, Bool, true, false, not, ◌&&◌, ◌||◌, List, [], ◌∷◌, ◌++◌, map, length, Option, Some, None, refl, sym, ap, ◌∙◌, subst, arith, append-nil}
-use Rattle.std.specs.Prelude.{Contains, is_some, if◌then◌else◌}
-use Rattle.std.specs.List.{list_any}
+use Rattle.std.proofs.Common.{◌≡◌, ◌≤◌, ℕ, suc, true, false, not, ◌||◌, List, [], ◌∷◌, ◌++◌, length, Option, Some, None, refl, sym, ap, ◌∙◌, subst, arith, append-nil}
+use Rattle.std.specs.Prelude.{is_some}
 use Rattle.std.proofs.lemmas.Bool.{and_parts}
 use Rattle.ca_tree.specs.declared.text.Pos.{Pos}
 use Rattle.ca_tree.specs.declared.tree.Stmt.{Stmt}
@@ -14,20 +13,18 @@ use Rattle.ca_tree.specs.declared.tree.Body.{Body}
 use Rattle.ca_tree.specs.declared.tree.Function.{Function}
 use Rattle.ca_tree.specs.declared.tree.Top.{Top}
 use Rattle.ca_tree.specs.declared.tree.Program.{Program}
-use Rattle.ca_tree.specs.Counts.{Totals, nothing_yet, one_more_function}
+use Rattle.ca_tree.specs.Counts.{Totals, one_more_function}
 use Rattle.ca_tree.specs.TreeWords.{Words}
 use Rattle.ca_tree.specs.StatementTrees.{item as tree_item, Statements, IsTree}
 use Rattle.ca_tree.specs.ProgramTrees as tree
 use Rattle.ca_tree.specs.ProgramTrees.{Each, AreGlobals, IsBody, no_body, a_body, IsFunction, IsTop, a_struct, some_globals, a_function, AreTops, no_top, one_top, IsProgramOf}
 use Rattle.ca_model.specs.declared.tree.Function.{Function as TypedFunction}
-use Rattle.ca_model.specs.declared.types.ObjectType.{ObjectType}
 use Rattle.ca_model.specs.declared.types.TypeFault.{TypeFault}
 use Rattle.ca_model.specs.declared.types.TypeKind.TheVariants as wrong
 use Rattle.ca_model.specs.Sites.{items_in_all}
 use Rattle.ca_model.specs.typing.Faults.{fault, unless}
 use Rattle.ca_model.specs.typing.Scopes.{Context}
-use Rattle.ca_model.specs.typing.Bodies.{Inside, Told}
-use Rattle.ca_model.specs.typing.Statements.{all_told}
+use Rattle.ca_model.specs.typing.Bodies.{Inside}
 use Rattle.ca_model.specs.typing.Known.{Known, with_each}
 use Rattle.ca_model.specs.typing.Globals.{with_mutex, with_thread, with_variable, with_globals}
 use Rattle.ca_model.specs.typing.Signatures.{result_type, result_faults, parameter_faults, signature, void_pointers_allowed, all_named, is_new, is_right, function_faults, with_signature}
@@ -39,7 +36,7 @@ use Rattle.ca_model.proofs.PlacedItems.{AllStand, none_stands, then_stand, knows
 use Rattle.ca_model.proofs.ToldItems.{body_stands}
 use Rattle.ca_model.proofs.LocalCounts.{through, parameters_count, told_counts, as_many_parameters}
 use Rattle.ca_model.proofs.Members.{in_none}
-use Rattle.ca_model.proofs.CountedKnowns.{IsInOrder, HasFewLocals, AreFew, Counts, Counted, and_faults, and_struct, and_mutex, and_global, and_function}
+use Rattle.ca_model.proofs.CountedKnowns.{IsInOrder, HasFewLocals, Counts, Counted, and_faults, and_struct, and_mutex, and_global, and_function}
 
 -- ---- functions
 

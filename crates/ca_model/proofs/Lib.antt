@@ -69,3 +69,4 @@ pub mod ToldItems
 pub mod LocalCounts
 pub mod CountedKnowns
 pub mod CountedPrograms
+pub mod TypedCounts

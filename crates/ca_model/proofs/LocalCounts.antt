@@ -1,19 +1,16 @@
 -- How many locals there are behind statements: never fewer than before, and at most 128 where nothing is wrong.
-use Rattle.std.proofs.Common.{◌≡◌, ◌≤◌, ◌<◌, ℕ, suc, ◌+◌, Bool, true, false, not, List, [], ◌∷◌, ◌++◌, Option, Some, None, refl, sym, ap, ◌∙◌, subst, arith}
+use Rattle.std.proofs.Common.{◌≡◌, ◌≤◌, ◌<◌, ℕ, ◌+◌, Bool, true, false, not, List, [], ◌∷◌, ◌++◌, Option, Some, None, refl, sym, subst, arith}
 use Rattle.std.specs.Prelude.{nat_lt, if◌then◌else◌, length, is_some}
 use Rattle.std.proofs.lemmas.Bool.{ltb-true, and_parts}
 use Rattle.ca_tree.specs.declared.tree.Base.{Base}
-use Rattle.ca_tree.specs.declared.tree.Exp.{Exp}
 use Rattle.ca_tree.specs.declared.tree.Name.{Name}
 use Rattle.ca_tree.specs.declared.tree.LocalDeclarator.{LocalDeclarator}
-use Rattle.ca_tree.specs.declared.tree.ThreadLocal.{ThreadLocal}
 use Rattle.ca_tree.specs.declared.tree.Locals.{Locals}
 use Rattle.ca_tree.specs.declared.tree.Locals.TheVariants as locals
 use Rattle.ca_tree.specs.declared.tree.ForFirst.{ForFirst}
 use Rattle.ca_tree.specs.declared.tree.ForFirst.TheVariants as first
 use Rattle.ca_tree.specs.declared.tree.ForHead.{ForHead}
 use Rattle.ca_tree.specs.declared.tree.Parameter.{Parameter}
-use Rattle.ca_tree.specs.declared.tree.Stmt.{Stmt}
 use Rattle.ca_tree.specs.TreeWords.{Words}
 use Rattle.ca_tree.specs.StatementTrees.{Part, Unbraced, A_statement, A_body, Statements, Tree, IsTree}
 use Rattle.ca_tree.specs.StatementTrees as tree
@@ -25,7 +22,7 @@ use Rattle.ca_model.specs.typing.TypeNames.{written_type, type_faults}
 use Rattle.ca_model.specs.typing.RightSides.{right_faults}
 use Rattle.ca_model.specs.typing.Bodies.{Inside, Told, in_order, inner, left}
 use Rattle.ca_model.specs.typing.Locals.{declared, declared_faults, is_taken, local_aim, a_local, a_thread, some_locals}
-use Rattle.ca_model.specs.typing.Statements.{a_first, told, all_told}
+use Rattle.ca_model.specs.typing.Statements.{a_first, told}
 use Rattle.ca_model.specs.typing.Signatures.{parameter_type, all_named}
 use Rattle.ca_model.specs.typing.Functions.{with_parameter, parameter_name_faults, a_parameter, parameters_told}
 use Rattle.ca_model.proofs.NoFaults.{none_left, none_right, held_by_none}

@@ -1,5 +1,5 @@
 -- Lists whose elements are numbered one after another.
-use Rattle.std.proofs.Common.{◌≡◌, ℕ, zero, suc, ◌+◌, List, [], ◌∷◌, ◌++◌, length, Some, sym, ap, ◌∙◌, arith}
+use Rattle.std.proofs.Common.{◌≡◌, ℕ, zero, suc, ◌+◌, List, [], ◌∷◌, ◌++◌, length, Some, ap, arith}
 use Rattle.std.specs.Prelude.{slice_get}
 use Rattle.ca_model.proofs.Law.{one_of}
 

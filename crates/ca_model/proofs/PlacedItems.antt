@@ -6,12 +6,11 @@ use Rattle.std.proofs.lemmas.Bool.{and_from, and_parts}
 use Rattle.std.proofs.lemmas.List.Elements.{Contains-append_left, Contains-append_right}
 use Rattle.ca_model.specs.declared.tree.Item.{Item}
 use Rattle.ca_model.specs.declared.tree.Stmt.{Stmt}
-use Rattle.ca_model.specs.declared.tree.Stmt.TheOpen.{Stmt-F}
 use Rattle.ca_model.specs.declared.tree.Stmt.TheVariants as s
 use Rattle.ca_model.specs.Codes.{Typed}
-use Rattle.ca_model.specs.Sites.{if_any, joined, items_step, items_in, items_in_all}
+use Rattle.ca_model.specs.Sites.{if_any, joined, items_in, items_in_all}
 use Rattle.ca_model.specs.Destroying.{is_last}
-use Rattle.ca_model.specs.WellFormed.{is_simple, is_condition, knows, is_in_head, all_placed, placed_step, is_placed}
+use Rattle.ca_model.specs.WellFormed.{is_simple, is_condition, knows, is_in_head, all_placed, is_placed}
 use Rattle.ca_model.specs.typing.Statements.{single}
 use Rattle.ca_model.proofs.Equations.{items_out, items_block}
 use Rattle.ca_model.proofs.StraightLines.{placed_out}

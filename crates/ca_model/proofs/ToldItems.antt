@@ -1,5 +1,5 @@
 -- The items of told statements: numbered as the tree numbers them, conditions and simple acts where these stand, `break` and `continue` in loops.
-use Rattle.std.proofs.Common.{◌≡◌, ℕ, suc, Bool, true, false, List, [], ◌∷◌, Option, Some, None, refl, sym, ap, subst}
+use Rattle.std.proofs.Common.{◌≡◌, ℕ, suc, Bool, true, false, List, Option, Some, None, refl, sym, subst}
 use Rattle.ca_tree.specs.declared.tree.Base.{Base}
 use Rattle.ca_tree.specs.declared.tree.Exp.{Exp}
 use Rattle.ca_tree.specs.declared.tree.ItemAt.{ItemAt}
@@ -28,8 +28,8 @@ use Rattle.ca_model.specs.typing.RightSides.{set_act}
 use Rattle.ca_model.specs.typing.LibraryCalls.{library_act}
 use Rattle.ca_model.specs.typing.SimpleStatements.{simple_act}
 use Rattle.ca_model.specs.typing.Bodies.{Inside, Told, inner, left}
-use Rattle.ca_model.specs.typing.Locals.{item, first_act, local_aim, a_local, a_thread, some_locals}
-use Rattle.ca_model.specs.typing.Statements.{condition, condition_or_one, value_if_there, a_first, a_step, item_of, told, all_told}
+use Rattle.ca_model.specs.typing.Locals.{first_act, local_aim, a_local, a_thread, some_locals}
+use Rattle.ca_model.specs.typing.Statements.{condition_or_one, value_if_there, a_first, a_step, item_of, told, all_told}
 use Rattle.ca_model.specs.typing.Bodies.{in_order}
 use Rattle.ca_model.proofs.ToldStatements.{told_block, told_locals, told_empty, told_simple, told_return, told_break, told_continue, told_if, told_else, told_while, told_do, told_for}
 use Rattle.ca_model.proofs.PlacedItems.{AllStand, StandsInHead, none_stands, then_stand, alone_stands, block_stands, single_stands, item_stands, break_stands, continue_stands, if_stands, else_stands, while_stands, do_stands, none_in_head, some_in_head, for_stands}
