@@ -26,3 +26,11 @@ module _ {A : Type 0} {number : A → ℕ} where
       let same : number y ≡ number x = ap number (one_of y x at) in
       omega arith
   number_of (one_more is h) (suc k) x at = let rest = number_of h k x at in omega arith
+
+  pub parted : {n m : ℕ} (xs : List A) {ys : List A} → Ascends number n (xs ++ ys) m → (k : ℕ) × Ascends number n xs k × Ascends number k ys m
+  parted {n = n} [] h = (n, no_more, h)
+  parted (x ∷ xs) (one_more is h) = let rest = parted xs h in (rest.0, one_more is rest.1, rest.2)
+
+  pub last_number : {n m : ℕ} (xs : List A) {x : A} → Ascends number n (xs ++ x ∷ []) m → suc (number x) ≡ m
+  last_number [] (one_more is no_more) = ap suc is
+  last_number (y ∷ xs) (one_more is h) = last_number xs h

@@ -1,5 +1,5 @@
 -- What a typed program counts: its items and functions by their numbers, its `main` among them, and how many things there are.
-use Rattle.std.proofs.Common.{◌≡◌, ◌≤◌, ◌<◌, ℕ, suc, ◌+◌, Bool, true, false, List, [], ◌∷◌, length, Option, Some, refl, sym, ◌∙◌, subst, arith}
+use Rattle.std.proofs.Common.{◌≡◌, ◌≤◌, ◌<◌, ℕ, zero, suc, ◌+◌, ◌-◌, ◌++◌, append-nil, Bool, true, false, List, [], ◌∷◌, length, Option, Some, refl, sym, ◌∙◌, subst, arith}
 use Rattle.std.specs.Prelude.{Contains, slice_get, is_some, ◌||◌, if◌then◌else◌}
 use Rattle.std.specs.List.{list_any}
 use Rattle.ca_tree.specs.declared.numbers.FunId.{FunId}
@@ -16,7 +16,7 @@ use Rattle.ca_tree.specs.ProgramTrees.{Each, AreGlobals, IsBody, no_body, a_body
 use Rattle.ca_model.specs.declared.tree.Item.{Item}
 use Rattle.ca_model.specs.declared.tree.Function.{Function as TypedFunction}
 use Rattle.ca_model.specs.Codes.{Typed}
-use Rattle.ca_model.specs.Sites.{items_of, all_items}
+use Rattle.ca_model.specs.Sites.{items_in_all, items_of, all_items}
 use Rattle.ca_model.specs.WellFormed.{knows, IsWellFormed}
 use Rattle.ca_model.specs.Bounds.{IsWithin, IsBounded}
 use Rattle.ca_model.specs.typing.Faults.{fault}
@@ -24,7 +24,9 @@ use Rattle.ca_model.specs.declared.types.TypeKind.TheVariants as wrong
 use Rattle.ca_model.specs.typing.Programs.{definitions, is_main, first_place, known}
 use Rattle.ca_model.specs.typing.Typing.{main_number, typed_by, IsTyping}
 use Rattle.ca_model.proofs.NoFaults.{held_by_none}
-use Rattle.ca_model.proofs.NumberedLists.{how_many, number_of}
+use Rattle.ca_model.proofs.NumberedLists.{Ascends, how_many, number_of, parted, last_number}
+use Rattle.ca_model.proofs.PlacedItems.{item_number}
+use Rattle.ca_model.proofs.Law.{one_of}
 use Rattle.ca_model.proofs.CountedKnowns.{IsInOrder, HasFewLocals, all_cells}
 use Rattle.ca_model.proofs.CountedPrograms.{program_counted}
 
@@ -66,9 +68,25 @@ definitions_counted {words = words} {m = m} (one_top {more = tops} (a_function {
 
 -- ---- the typed program
 
+-- the last item is the closing brace of the last function
+closing_number : {n m : ℕ} (f : TypedFunction) → Ascends item_number n (items_of f) m → suc f.close.id.0 ≡ m
+closing_number f h = last_number (items_in_all f.body) h
+
+last_closing : (fs : List TypedFunction) (f : TypedFunction) (j : ℕ) → slice_get fs j ≡ Some f → suc j ≡ length fs → {n m : ℕ} → Ascends item_number n (all_items fs) m → suc f.close.id.0 ≡ m
+last_closing [] f j at last h = absurd cc
+last_closing (g ∷ []) f zero at last {n} {m} h =
+    closing_number f (subst (λ (g : TypedFunction). Ascends item_number n (items_of g) m) (one_of g f at) (subst (λ is. Ascends item_number n is m) (append-nil (items_of g)) h))
+last_closing (g ∷ k ∷ fs) f zero at last h = absurd (omega arith)
+last_closing (g ∷ fs) f (suc j) at last h = last_closing fs f j at (omega arith) (parted (items_of g) h).2
+
+last_place : (fs : List TypedFunction) (f : TypedFunction) → slice_get fs (length fs - 1) ≡ Some f → suc (length fs - 1) ≡ length fs
+last_place [] f at = absurd cc
+last_place (g ∷ fs) f at = omega arith
+
 -- what a typed program counts
 pub record IsCounted (t : Typed) : Type 0 where
   pub items : (k : ℕ) (i : Item) → slice_get (all_items t.functions) k ≡ Some i → i.id.0 ≡ k + 1
+  pub last_item : (f : TypedFunction) → slice_get t.functions (length t.functions - 1) ≡ Some f → f.close.id.0 ≡ length (all_items t.functions)
   pub few_items : length (all_items t.functions) ≤ 65536
   pub functions : (k : ℕ) (f : TypedFunction) → slice_get t.functions k ≡ Some f → f.id.0 ≡ k
   pub few_functions : length t.functions ≤ 256
@@ -88,6 +106,9 @@ module _ {words : Words} {p : Program} (is : IsProgramOf words p) where
       let items_are = how_many counts.items in
       record {
         items = λ k i at. let here = number_of counts.items k i at in omega arith;
+        last_item = λ f at.
+            let last = last_closing (known p).functions f (length (known p).functions - 1) at (last_place (known p).functions f at) counts.items in
+            omega arith;
         few_items = let few = counts.few.items in omega arith;
         functions = λ k f at. let here = number_of counts.functions k f at in omega arith;
         few_functions = let few = counts.few.functions in omega arith;
