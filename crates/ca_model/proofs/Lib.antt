@@ -85,3 +85,10 @@ pub mod SignaturesKnown
 pub mod DeclarationsKnown
 pub mod DefinitionsFound
 pub mod NamesKnown
+pub mod NumberedLists
+pub mod PlacedItems
+pub mod ToldItems
+pub mod LocalCounts
+pub mod CountedKnowns
+pub mod CountedPrograms
+pub mod TypedCounts

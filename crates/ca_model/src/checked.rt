@@ -1,6 +1,7 @@
 //! A source whose types were found right.
 
 ghost use Rattle.std.specs.Prelude.{◌≡◌, ◌<◌, Some, length, slice_get};
+ghost use Rattle.ca_model.specs.Sites.{all_items};
 ghost use Rattle.ca_model.specs.typing.Sources.{source, IsChecked};
 
 use crate::tree::{Function, GlobalStart};
@@ -71,6 +72,23 @@ impl Checked {
         ensures { result.now ≡ self.now.typed.globals }
     {
         self.globals.as_slice()
+    }
+
+    /// How many functions there are. It takes no memory.
+    pub fn functions(&self) -> u32
+        ensures { result ≡ length self.now.typed.functions }
+    {
+        self.functions.len() as u32
+    }
+
+    /// How many items there are: the last one is the closing brace of the last function. It takes no memory.
+    pub fn items(&self) -> u32
+        ensures { result ≡ length (all_items self.now.typed.functions) }
+    {
+        match self.functions.last() {
+            Some(last) => last.close.id.0,
+            None => 0,
+        }
     }
 
     /// How many mutexes there are. It takes no memory.
