@@ -27,10 +27,11 @@ use Rattle.ca_model.proofs.EmptyFaults.{none_in}
 use Rattle.ca_model.proofs.ExpressionsThere.{Typed_field}
 use Rattle.ca_model.proofs.Surroundings.{Means, Fine}
 use Rattle.ca_model.proofs.EachItem.{each_of_none}
-use Rattle.ca_model.proofs.LocalsFit.{GoodItem, Well, Tells, nothing_tells, then_at, declared_fine, declared_count}
+use Rattle.ca_model.proofs.LocalsFit.{GoodItem, Well, Tells, nothing_tells, then_at, declared_fine}
+use Rattle.ca_model.proofs.DeclaredLocals.{declared_rises}
 use Rattle.ca_model.proofs.StatementsFit.{body_tells}
 
-structs_by : (b : Bool) (c : Inside) (ls : List (List ℕ × Meaning)) → (if b then with_locals c ls (c.count + 1) else record c { count = c.count + 1 }).context.scope.structs ≡ c.context.scope.structs
+structs_by : (b : Bool) (c : Inside) (ls : List (List ℕ × Meaning)) → (if b then with_locals c ls (c.count + 1) else c).context.scope.structs ≡ c.context.scope.structs
 structs_by true c ls = refl
 structs_by false c ls = refl
 
@@ -46,7 +47,7 @@ module _ (t : Typed) where
 
   named_fine : (c : Inside) (x : Option Name) (u : Option ObjectType) → Fine t c → is_some u ≡ true → (c.count ≤ (with_parameter c x u).count) × Fine t (with_parameter c x u)
   named_fine c None u h typed = (omega arith, h)
-  named_fine c (Some x) u h typed = let counted = declared_count t c x u in (omega arith, declared_fine t c x u h typed)
+  named_fine c (Some x) u h typed = (declared_rises c x u, declared_fine t c x u h typed)
 
   parameter_tells : (a : Parameter) (c : Inside) → Fine t c → is_some (parameter_type c.context.scope a) ≡ true → Tells t c (a_parameter c a)
   parameter_tells a c h typed none =

@@ -75,6 +75,7 @@ pub mod ToldStatements
 pub mod Surroundings
 pub mod ActsFit
 pub mod EachItem
+pub mod DeclaredLocals
 pub mod LocalsFit
 pub mod StatementsFit
 pub mod FunctionsFit

@@ -25,7 +25,8 @@ use Rattle.ca_model.specs.typing.Locals.{declared, declared_faults, is_taken, lo
 use Rattle.ca_model.specs.typing.Statements.{a_first, told}
 use Rattle.ca_model.specs.typing.Signatures.{parameter_type, all_named}
 use Rattle.ca_model.specs.typing.Functions.{with_parameter, parameter_name_faults, a_parameter, parameters_told}
-use Rattle.ca_model.proofs.NoFaults.{none_left, none_right, held_by_none}
+use Rattle.ca_model.proofs.NoFaults.{none_left, none_right}
+use Rattle.ca_model.proofs.DeclaredLocals.{declared_rises, declared_few, one_more}
 use Rattle.ca_model.proofs.ToldStatements.{told_block, told_locals, told_empty, told_simple, told_return, told_break, told_continue, told_if, told_else, told_while, told_do, told_for}
 use Rattle.ca_model.proofs.ToldItems.{told_part}
 
@@ -45,23 +46,8 @@ through fs gs x y = record {
 
 -- ---- declarations
 
-count_if : (b : Bool) (x y : Inside) (n : ℕ) → x.count ≡ n → y.count ≡ n → (if b then x else y).count ≡ n
-count_if true x y n p q = p
-count_if false x y n p q = q
-
-pub one_more_declared : (c : Inside) (x : Name) (t : Option ObjectType) → (declared c x t).count ≡ c.count + 1
-one_more_declared c x t = count_if (nat_lt c.count 128) _ _ (c.count + 1) refl refl
-
 declared_counts : (c : Inside) (x : Name) (t : Option ObjectType) → Counts c.count (declared_faults c x) (declared c x t).count
-declared_counts c x t =
-    let more = one_more_declared c x t in
-    record {
-      grows = omega arith;
-      few = λ none h.
-          let room : unless (nat_lt c.count 128) (fault x.pos wrong.TooManyLocals) ≡ [] = none_right (unless (not (is_taken c x.text)) (fault x.pos wrong.Twice)) _ none in
-          let under : c.count < 128 = ltb-true c.count 128 (held_by_none (nat_lt c.count 128) (fault x.pos wrong.TooManyLocals) room) in
-          omega arith;
-    }
+declared_counts c x t = record { grows = declared_rises c x t; few = λ none h. declared_few c x t h }
 
 local_counts : (b : Base) (c : Inside) (d : LocalDeclarator) → Counts c.count (a_local b c d).faults (a_local b c d).behind.count
 local_counts b c d =
@@ -120,15 +106,15 @@ parameter_counts c (Some x) t = declared_counts c x t
 pub parameters_count : (ps : List Parameter) (c : Inside) → Counts c.count (parameters_told c ps).faults (parameters_told c ps).behind.count
 parameters_count ps c = in_order_counts a_parameter (λ c a. parameter_counts c a.name (parameter_type c.context.scope a)) ps c
 
-one_more_parameter : (c : Inside) (x : Option Name) (t : Option ObjectType) → is_some x ≡ true → (with_parameter c x t).count ≡ c.count + 1
-one_more_parameter c None t h = absurd cc
-one_more_parameter c (Some x) t h = one_more_declared c x t
+one_more_parameter : (c : Inside) (x : Option Name) (t : Option ObjectType) → is_some x ≡ true → c.count < 128 → (with_parameter c x t).count ≡ c.count + 1
+one_more_parameter c None t h room = absurd cc
+one_more_parameter c (Some x) t h room = one_more c x t room
 
 -- the parameters of a definition are its first locals
-pub as_many_parameters : (ps : List Parameter) (c : Inside) → all_named ps ≡ true → (parameters_told c ps).behind.count ≡ c.count + length ps
-as_many_parameters [] c h = omega arith
-as_many_parameters (a ∷ more) c h =
+pub as_many_parameters : (ps : List Parameter) (c : Inside) → all_named ps ≡ true → c.count + length ps ≤ 128 → (parameters_told c ps).behind.count ≡ c.count + length ps
+as_many_parameters [] c h room = omega arith
+as_many_parameters (a ∷ more) c h room =
     let parts = and_parts (is_some a.name) (all_named more) h in
-    let here = one_more_parameter c a.name (parameter_type c.context.scope a) parts.0 in
-    let rest = as_many_parameters more (with_parameter c a.name (parameter_type c.context.scope a)) parts.1 in
+    let here = one_more_parameter c a.name (parameter_type c.context.scope a) parts.0 (omega arith) in
+    let rest = as_many_parameters more (with_parameter c a.name (parameter_type c.context.scope a)) parts.1 (omega arith) in
     omega arith

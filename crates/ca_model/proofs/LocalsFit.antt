@@ -29,6 +29,7 @@ use Rattle.ca_model.specs.typing.RightSides.{right_faults}
 use Rattle.ca_model.specs.typing.Bodies.{Inside, Told, nothing, and_then, in_order}
 use Rattle.ca_model.specs.typing.Locals.{with_locals, most_locals, declared, local_aim, first_act, a_local, a_thread, some_locals}
 use Rattle.ca_model.specs.typing.Statements.{plain}
+use Rattle.ca_model.proofs.DeclaredLocals.{one_more_where}
 use Rattle.ca_model.proofs.MissingAnswers.{if_found}
 use Rattle.ca_model.proofs.TypesThere.{type_there}
 use Rattle.ca_model.proofs.EmptyFaults.{none_in}
@@ -74,7 +75,7 @@ module _ (t : Typed) where
   -- ---- a local behind its declarator
 
   declared_by : (b : Bool) (c : Inside) (x : Name) (u : Option ObjectType) → Fine t c → is_some u ≡ true
-      → Fine t (if b then with_locals c ((x.text, means.Local (record { 0 = c.count }) u) ∷ c.context.scope.locals) (c.count + 1) else record c { count = c.count + 1 })
+      → Fine t (if b then with_locals c ((x.text, means.Local (record { 0 = c.count }) u) ∷ c.context.scope.locals) (c.count + 1) else c)
   declared_by true c x u h typed = record {
     globals = h.globals;
     locals = λ y.
@@ -82,17 +83,10 @@ module _ (t : Typed) where
         (omega arith, typed) ((fine_more t c (c.count + 1) h (omega arith)).locals y);
     fields = h.fields;
   }
-  declared_by false c x u h typed = fine_more t c (c.count + 1) h (omega arith)
+  declared_by false c x u h typed = h
 
   pub declared_fine : (c : Inside) (x : Name) (u : Option ObjectType) → Fine t c → is_some u ≡ true → Fine t (declared c x u)
   declared_fine c x u h typed = declared_by (nat_lt c.count most_locals) c x u h typed
-
-  count_by : (b : Bool) (c : Inside) (ls : List (List ℕ × Meaning)) → (if b then with_locals c ls (c.count + 1) else record c { count = c.count + 1 }).count ≡ c.count + 1
-  count_by true c ls = refl
-  count_by false c ls = refl
-
-  pub declared_count : (c : Inside) (x : Name) (u : Option ObjectType) → (declared c x u).count ≡ c.count + 1
-  declared_count c x u = count_by (nat_lt c.count most_locals) c _
 
   module _ (words : Words) where
     first_good : (n : ℕ) (c : Inside) (u : Option ObjectType) (r : Option Right) → Surrounds t n c.context → c.count < n → IfSome r (IsRight words) → given r (right_faults c.context (local_aim c u)) ≡ [] → GoodAct t n (first_act c u r)
@@ -104,7 +98,7 @@ module _ (t : Typed) where
         let u : Option ObjectType = written_type c.context.scope b k in
         let parts = none_in (type_faults c.context.scope b ++ given r (right_faults c.context (local_aim c u))) _ none in
         let first = none_in (type_faults c.context.scope b) (given r (right_faults c.context (local_aim c u))) parts.0 in
-        let counted = declared_count c x u in
+        let counted = one_more_where c x u parts.1 in
         record {
           rises = omega arith;
           fine = declared_fine c x u h (type_there c.context.scope b k first.0);
@@ -113,7 +107,7 @@ module _ (t : Typed) where
 
     thread_tells : (d : ThreadLocal) (c : Inside) → Fine t c → Tells c (a_thread c d)
     thread_tells d c h none =
-        let counted = declared_count c d.name (Some thread) in
+        let counted = one_more_where c d.name (Some thread) none in
         record { rises = omega arith; fine = declared_fine c d.name (Some thread) h refl; items = λ i le. each_of_item (GoodItem i) _ (omega arith) }
 
     more_locals_tell : {b : Base} {n m : ℕ} {ds : List LocalDeclarator} → MoreLocals words b n ds m → (c : Inside) → Fine t c → Tells c (in_order (a_local b) ds c)

@@ -38,12 +38,12 @@ is_taken c n = is_library_word n || list_any (λ x. bytes_eq n x.0) (take (lengt
 abbrev pub most_locals : ℕ
 most_locals = 128
 
--- a local behind its declarator: y more than 128 are visible
+-- a local behind its declarator; one more than 128 isn't declared
 abbrev pub declared : Inside → Name → Option ObjectType → Inside
 declared c n t =
     if nat_lt c.count most_locals
     then with_locals c ((n.text, means.Local (record { 0 = c.count }) t) ∷ c.context.scope.locals) (c.count + 1)
-    else record c { count = c.count + 1 }
+    else c
 
 abbrev pub declared_faults : Inside → Name → List TypeFault
 declared_faults c n = unless (not (is_taken c n.text)) (fault n.pos wrong.Twice) ++ unless (nat_lt c.count most_locals) (fault n.pos wrong.TooManyLocals)
