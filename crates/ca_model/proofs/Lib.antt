@@ -70,3 +70,7 @@ pub mod LocalCounts
 pub mod CountedKnowns
 pub mod CountedPrograms
 pub mod TypedCounts
+pub mod FittingItems
+pub mod PassedLists
+pub mod RisingNumbers
+pub mod FittingPlans
