@@ -43,8 +43,8 @@ use Rattle.ca_model.proofs.SiteNumbers.{have_their_numbers}
 use Rattle.ca_model.proofs.Silent.{stays, started_stands}
 use Rattle.ca_model.proofs.Followed.{well_formed_follows}
 use Rattle.ca_model.proofs.FramesInPlace.{AreInPlace, entry_is}
-use Rattle.ca_erasure.proofs.Standing.{Wanting, Of_item, Of_turn, Of_save_after, Of_save_entry, Of_end, wanting}
-use Rattle.ca_erasure.proofs.Backward.{IsWithin, Covered, came, answer_goes, by_own}
+use Rattle.ca_erasure.proofs.Standing.{Wanting, Of_item, Of_turn, Of_save_after, Of_save_entry, Of_end, wanting, by_own, last_keeps}
+use Rattle.ca_erasure.proofs.Backward.{IsWithin, Covered, came, answer_goes}
 use Rattle.ca_erasure.proofs.KnownItems.{heads_known}
 
 -- an entry that may be dropped, with what it takes
@@ -67,7 +67,7 @@ no_end a y h = cc
 pub no_arith : (k : _) (a : EventAct) (y : Value) → answer (Faults k) a ≡ Some y → ⊥
 no_arith k a y h = cc
 
-abbrev is_call : Want → Bool
+abbrev pub is_call : Want → Bool
 is_call (Calls g xs) = true
 is_call _ = false
 
@@ -147,7 +147,7 @@ module _ (p : Typed) (wf : IsWellFormed p) (plan : Plan) (sound : IsSound p plan
   call_back : (f : Frame) (fs : Thread) (g : FunId) (xs : List Value) → InProgress code f → begun code f ≡ Wants (Calls g xs) → Wanting code f.left f.locals f.answers (Calls g xs) → WillRetry (frame_of code g xs ∷ f ∷ fs) → WillRetry (f ∷ fs)
   call_back f fs g xs progress is (Of_item i ys head run more) (k, le, (j, stands, within, mallocs)) =
       let up = up_by k g xs (slice_get p.functions g.0) j refl le (started_stands code g xs, stands) within in
-      let call : paths.Calls i.act g = by_own p wf plan sound i f.locals ys (Calls g xs) run in
+      let call : paths.Calls i.act g = by_own code i f.locals ys (Calls g xs) run in
       (k + 1, omega (arith, up.0), (i, head, up.1 i (heads_known p wf plan f progress i head) call, λ e. absurd (no_malloc i.act g call e)))
   call_back f fs g xs progress is (Of_turn c head e) h = absurd (no_call g xs Turns e refl)
   call_back f fs g xs progress is (Of_save_after i ms at empty e) h = absurd (no_call g xs Saves e refl)
@@ -220,15 +220,10 @@ module _ (p : Typed) (wf : IsWellFormed p) (plan : Plan) (sound : IsSound p plan
       let r = if_some (code.planned at && nat_lt (tries sv at) code.limit) (Some at) s h in
       (r.1, ap code.planned (sym (one_of at s r.1)) ∙ (and_parts (code.planned at) (nat_lt (tries sv at) code.limit) r.0).0)
 
-  last_site : (w : Want) (fs : Thread) (s : SiteId) → site_of (last_want w fs) ≡ Some s → site_of w ≡ Some s
-  last_site (Returns x) [] s h = absurd cc
-  last_site (Returns x) (f ∷ fs) s h = h
-  last_site w fs s h = h
-
   got_site : (g : Got Done) (f : Frame) (fs : Thread) (s : SiteId) → InProgress code f → begun code f ≡ g → site_of (last_want (wanted g) fs) ≡ Some s → code.planned s ≡ true → WillRetry (f ∷ fs)
   got_site (Is d rest) f fs s progress is h planned = absurd cc
   got_site No_result f fs s progress is h planned = absurd cc
-  got_site (Wants w) f fs s progress is h planned = at_site f fs w s progress is (wanting code f.left f.locals f.answers w is) (last_site w fs s h) planned
+  got_site (Wants w) f fs s progress is h planned = at_site f fs w s progress is (wanting code f.left f.locals f.answers w is) (last_keeps (λ v. site_of v ≡ Some s) (λ e. absurd cc) w fs h) planned
 
   pub will_retry : (h : Hardened) (s : SiteId) → AreInPlace code (InProgress code) h.frames → retry_site code h ≡ Some s → WillRetry h.frames
   will_retry h s all at = let r = retries_by (site_of (stand code h.frames).want) h.saved s at in by_frames h.frames all r.0 r.1

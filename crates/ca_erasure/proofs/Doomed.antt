@@ -1,6 +1,6 @@
 -- In a run of the hardened machine: a thread of which a retry follows with no save between is on the way to it.
-use Rattle.std.proofs.Common.{◌≡◌, ◌≢◌, ℕ, zero, suc, Bool, true, false, cond, List, [], ◌∷◌, Option, Some, None, refl, sym, ap, ◌∙◌, subst, inl, inr}
-use Rattle.std.specs.Prelude.{◌&&◌, ◌==◌, if◌then◌else◌, slice_get, slice_set, is_some}
+use Rattle.std.proofs.Common.{◌≡◌, ◌≢◌, ℕ, Bool, true, false, cond, List, [], ◌∷◌, Option, Some, None, refl, sym, ap, ◌∙◌, subst, inl, inr}
+use Rattle.std.specs.Prelude.{◌&&◌, ◌==◌, if◌then◌else◌, slice_get, is_some}
 use Rattle.std.proofs.lemmas.Bool.{eq-eqb}
 use Rattle.std.proofs.lemmas.Bool.Decides.{eqb_tells}
 use Rattle.ca_tree.specs.declared.numbers.SiteId.{SiteId}
@@ -12,7 +12,7 @@ use Rattle.ca_model.specs.declared.values.EventAct.TheVariants as act
 use Rattle.ca_model.specs.Begun.{InProgress, starts, goes_on}
 use Rattle.ca_model.specs.Frames.{Code}
 use Rattle.ca_model.specs.Private.{Thread, stand, after_entry}
-use Rattle.ca_model.specs.Machine.{State, Step, Run, created}
+use Rattle.ca_model.specs.Machine.{State, Step, Run}
 use Rattle.ca_model.specs.Projection.{is_mark, if_mark, abandoned}
 use Rattle.ca_model.specs.Hardened.{Hardened, Saved, hardened, hardened_advance, retry_site, taking, took, back, retried, is_failing, is_part, latest_first}
 use Rattle.ca_model.specs.Codes.{Typed, code_of}
@@ -20,13 +20,13 @@ use Rattle.ca_model.specs.WellFormed.{IsWellFormed}
 use Rattle.ca_model.specs.Plans.{IsSound}
 use Rattle.ca_model.proofs.OneEntry.{if_some}
 use Rattle.ca_model.proofs.Law.{one_of}
-use Rattle.ca_model.proofs.Steps.{get_left}
 use Rattle.ca_model.proofs.Creates.{hardened_creates}
 use Rattle.ca_model.proofs.FramesInPlace.{HasFrames}
 use Rattle.ca_model.proofs.HardenedInPlace.{with_is, again, IsInPlace, advance_in_place, started_in_place}
 use Rattle.ca_model.proofs.KeptByRuns.{IsKept, kept_by_run, opening_kept}
 use Rattle.ca_model.specs.Opening.{opening}
 use Rattle.ca_model.specs.Arith.{null}
+use Rattle.ca_erasure.proofs.Moving.{stands_after, others_stay}
 use Rattle.ca_erasure.proofs.Attempts.{WillRetry, entry_back, will_retry}
 
 -- the entries: a save, a retry, or none of both
@@ -54,19 +54,6 @@ ab_other e es q ne = elim (eqb_tells e.thread q) [
   | inl (b, same) ↦ absurd (ne (sym same))
   | inr (b, other) ↦ ap (λ b. cond b (if_mark e.act (abandoned q es)) (abandoned q es)) b
 ]
-
--- a place of a list that is set
-pub set_here : {A : Type 0} (xs : List A) (t : ℕ) (x y : A) → slice_get xs t ≡ Some x → slice_get (slice_set xs t y) t ≡ Some y
-set_here [] t x y h = cc
-set_here (z ∷ xs) zero x y h = refl
-set_here (z ∷ xs) (suc t) x y h = set_here xs t x y h
-
-pub set_there : {A : Type 0} (xs : List A) (t q : ℕ) (y : A) → q ≢ t → slice_get (slice_set xs t y) q ≡ slice_get xs q
-set_there [] t q y ne = refl
-set_there (z ∷ xs) zero zero y ne = absurd (ne refl)
-set_there (z ∷ xs) zero (suc q) y ne = refl
-set_there (z ∷ xs) (suc t) zero y ne = refl
-set_there (z ∷ xs) (suc t) (suc q) y ne = set_there xs t q y (λ e. ne (ap suc e))
 
 -- a step of its frames, with what it takes
 abbrev pub TakesSo : Code → Hardened → EventAct → List Given → Type 0
@@ -133,17 +120,6 @@ module _ (p : Typed) (plan : Plan) where
   pub hardened_opens : HKept (opening (hardened hardened_code) p)
   hardened_opens = opening_kept (hardened hardened_code) (IsInPlace hardened_code (InProgress hardened_code)) (λ h. HasFrames h.frames) p ((starts p.main (null ∷ []), tt), tt) tt
 
-  -- the thread that makes an entry, and the others
-  pub stands_after : (s mid : State Hardened) (e : Event) (st : Step (hardened hardened_code) s e mid) → slice_get mid.threads e.thread ≡ Some st.after
-  stands_after s mid e st =
-      ap (λ ts. slice_get ts e.thread) st.threads
-      ∙ get_left (slice_set s.threads e.thread st.after) (created (hardened hardened_code) e.act ((hardened hardened_code).want st.before)) e.thread st.after (set_here s.threads e.thread st.before st.after st.stands)
-
-  pub others_stay : (s mid : State Hardened) (e : Event) (st : Step (hardened hardened_code) s e mid) (q : ℕ) (h : Hardened) → q ≢ e.thread → slice_get s.threads q ≡ Some h → slice_get mid.threads q ≡ Some h
-  others_stay s mid e st q h ne at =
-      ap (λ ts. slice_get ts q) st.threads
-      ∙ get_left (slice_set s.threads e.thread st.after) (created (hardened hardened_code) e.act ((hardened hardened_code).want st.before)) q h (set_there s.threads e.thread q st.after ne ∙ at)
-
 module _ (p : Typed) (wf : IsWellFormed p) (plan : Plan) (sound : IsSound p plan) where
   abbrev code : Code
   code = code_of p plan
@@ -172,6 +148,6 @@ module _ (p : Typed) (wf : IsWellFormed p) (plan : Plan) (sound : IsSound p plan
         | inl (n, same) ↦
             let own : if_mark e.act (abandoned e.thread es) ≡ true = sym (ab_own e es) ∙ (ap (λ q. abandoned q (e ∷ es)) (sym same) ∙ b) in
             let is : st.before ≡ h = one_of st.before h (sym st.stands ∙ (ap (slice_get s.threads) (sym same) ∙ at)) in
-            subst IsDoomed is (dooms e.act st.before st.after (abandoned e.thread es) (kinded e.act) st.own (k.fine e.thread st.before st.stands) own (λ c. later e.thread st.after c (stands_after p plan s mid e st)))
-        | inr (n, other) ↦ later t h (sym (ab_other e es t other) ∙ b) (others_stay p plan s mid e st t h other at)
+            subst IsDoomed is (dooms e.act st.before st.after (abandoned e.thread es) (kinded e.act) st.own (k.fine e.thread st.before st.stands) own (λ c. later e.thread st.after c (stands_after (hardened code) s mid e st)))
+        | inr (n, other) ↦ later t h (sym (ab_other e es t other) ∙ b) (others_stay (hardened code) s mid e st t h other at)
       ]

@@ -11,7 +11,7 @@ use Rattle.ca_model.specs.Sites.{all_items}
 use Rattle.ca_model.specs.Accesses.{Named_load, accesses_to, all_sites, sites_in}
 use Rattle.ca_model.specs.Links.{Flow, stmt_flow, flow, flows, block_links, at_close, first_item, links_of, Next}
 use Rattle.ca_model.specs.Destroying.{destroys}
-use Rattle.ca_model.specs.Paths.{Stop, GoesUp, Goes, OnPath, PointAfter, PointAtEntry}
+use Rattle.ca_model.specs.Paths.{Stop, GoesUp, Goes, OnPath, Before, PointAfter, PointAtEntry}
 use Rattle.ca_model.specs.Paths as path
 use Rattle.ca_model.specs.WellFormed.{is_placed, all_placed, IsWellFormed}
 use Rattle.ca_model.proofs.Equations.{flow_while, flow_block, items_while, items_block, items_item, flow_item, accesses_num, accesses_local, accesses_global, accesses_load, accesses_binary, accesses_plain, accesses_indexed}
@@ -95,17 +95,26 @@ no_up a b (f, c, first, alone, call, below, depth) = alone (inl (ap (λ g. g.id)
 abbrev IsStart : Stop → Type 0
 IsStart a = (a ≡ (tests, 0)) ⊎ (a ≡ (begins, 0))
 
-back_from : (a b : Stop) → IsStart a → Goes program 3 a b → IsStart b
+back_from : (a b : Stop) → IsStart a → Goes program 3 a b → b ≡ (begins, 0)
 back_from a b at (inr up) = absurd (no_up a b up)
 back_from a b (inl is) (inl back) = elim (to_tests a.0 b.0 (linked a.0 b.0 back.0) (ap (λ x. x.0.id.0) is)) [
-  | inl first ↦ inr (λ k. (first k, (back.2 ∙ ap (λ x. x.1) is) k))
+  | inl first ↦ λ k. (first k, (back.2 ∙ ap (λ x. x.1) is) k)
   | inr last ↦ let no' : true ≡ false = sym (ap (λ x. destroys x.act) last) ∙ back.1 in absurd (cc)
 ]
 back_from a b (inr is) (inl back) = absurd (to_first a.0 b.0 (linked a.0 b.0 back.0) (ap (λ x. x.0.id.0) is))
 
 starts : (a : Stop) → OnPath program 3 tests a → IsStart a
 starts a path.begins = inl refl
-starts a (path.goes {a = b} p g) = back_from b a (starts b p) g
+starts a (path.goes {a = b} p g) = inr (back_from b a (starts b p) g)
+
+to_begins : Goes program 3 (tests, 0) (begins, 0)
+to_begins = inl (links tests begins (0, omega arith, refl), refl, refl)
+
+pub before_tests : (j : Item) → Before program 3 tests j ↔ (j ≡ begins)
+before_tests j = (
+  (λ (a, k, p, go). ap (λ x. x.0) (back_from a (j, k) (starts a p) go)),
+  (λ is. subst (Before program 3 tests) (sym is) ((tests, 0), 0, path.begins, to_begins)),
+)
 
 pub after_writes : (j : Item) → PointAfter program 3 tests j ↔ (j ≡ writes)
 after_writes j = (
@@ -122,7 +131,7 @@ after_writes j = (
 pub at_main : (f : Function) → PointAtEntry program 3 tests f ↔ (f ≡ main_function)
 at_main f = (
   (λ (c, way). sym (in_one main_function f c)),
-  (λ is. subst (PointAtEntry program 3 tests) (sym is) ((0, omega arith, refl), (0, subst (λ x. OnPath program 3 tests (x, 0)) (sym first_is) (path.goes path.begins (inl (links tests begins (0, omega arith, refl), refl, refl))), λ b up. no_up _ b up))),
+  (λ is. subst (PointAtEntry program 3 tests) (sym is) ((0, omega arith, refl), (0, subst (λ x. OnPath program 3 tests (x, 0)) (sym first_is) (path.goes path.begins to_begins), λ b up. no_up _ b up))),
 )
 
 -- the source is well-formed

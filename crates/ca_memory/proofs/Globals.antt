@@ -1,6 +1,6 @@
 -- The blocks of globals, and their counts.
-use Rattle.std.proofs.Common.{◌≡◌, ◌≤◌, ◌<◌, ◌+◌, ◌^◌, ℕ, zero, suc, Bool, true, false, cond, ◌&&◌, List, [], ◌∷◌, length, Option, Some, None, refl, sym, ap, subst, ◌∙◌, arith, length-set}
-use Rattle.std.specs.Prelude.{All, map, nat_le, nat_lt, is_some, IsSome, slice_set, replicate, slice_index_or, sum_by}
+use Rattle.std.proofs.Common.{◌≡◌, ◌≤◌, ◌<◌, ◌+◌, ℕ, zero, suc, true, false, cond, ◌&&◌, List, [], ◌∷◌, length, Some, None, refl, sym, ap, ◌∙◌, arith, length-set}
+use Rattle.std.specs.Prelude.{All, map, nat_le, nat_lt, is_some, replicate, sum_by}
 use Rattle.std.specs.Ordering.{nat_cmp, eq_by_cmp}
 use Rattle.std.specs.Cmp.{nat_cmp_total}
 use Rattle.std.specs.FinMap as finite
@@ -9,7 +9,7 @@ use Rattle.std.proofs.lemmas.List.{length-replicate}
 use Rattle.std.proofs.lemmas.Bool.Decides.{nat_tests}
 use Rattle.ca_model.specs.declared.tree.GlobalStart.{GlobalStart}
 use Rattle.ca_model.specs.Arith.{null}
-use Rattle.ca_model.specs.Shared.{Blocks, Block, heap_size, live_cells}
+use Rattle.ca_model.specs.Shared.{Block, heap_size, live_cells}
 use Rattle.ca_model.specs.Opening.{globals_from}
 use Rattle.ca_memory.specs.Kept.{most_cells, AreShort, AreCounts}
 use Rattle.ca_memory.specs.Zeros.{global_block, zeroed}

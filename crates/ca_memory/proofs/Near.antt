@@ -1,12 +1,12 @@
 -- An access that reaches a cell has the number of that cell.
-use Rattle.std.proofs.Common.{◌≡◌, ◌≤◌, ◌<◌, ℕ, ℤ, pos, negsuc, Bool, true, false, Option, Some, None, length, refl, sym, ap, ◌∙◌, subst, arith, inl, inr}
+use Rattle.std.proofs.Common.{◌≡◌, ◌≤◌, ◌<◌, ℕ, ℤ, pos, negsuc, Bool, true, false, Option, Some, None, length, refl, ap, arith, inl, inr}
 use Rattle.std.specs.Prelude.{slice_get, IsSome, is_some, List}
 use Rattle.std.specs.FinMap as finite
 use Rattle.std.proofs.lemmas.Bool.{cases_order}
 use Rattle.std.proofs.lemmas.Option.{slice_get_past}
 use Rattle.ca_model.specs.declared.values.Value.{Value}
 use Rattle.ca_model.specs.declared.values.Value.TheVariants as v
-use Rattle.ca_model.specs.Shared.{Blocks, Block, if_live, cell_at, cell, reached}
+use Rattle.ca_model.specs.Shared.{Blocks, Block, if_live, cell_at, reached}
 use Rattle.ca_memory.specs.Kept.{most_cells, AreShort}
 use Rattle.ca_memory.specs.Zeros.{IsNear}
 

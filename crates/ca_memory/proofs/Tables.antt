@@ -1,14 +1,14 @@
 -- A table of blocks and the blocks that it stands for.
-use Rattle.std.proofs.Common.{◌≡◌, ◌≤◌, ◌<◌, ℕ, zero, suc, ℤ, pos, negsuc, Bool, true, false, cond, List, [], ◌∷◌, length, Option, Some, None, refl, sym, ap, subst, ◌∙◌, arith, ◌+◌, below_more, le_trans, le_of_eq}
+use Rattle.std.proofs.Common.{◌≡◌, ◌≤◌, ◌<◌, ℕ, zero, suc, ℤ, pos, negsuc, Bool, true, false, cond, List, [], ◌∷◌, length, Option, Some, None, refl, sym, ap, ◌∙◌, arith, ◌+◌, below_more, le_trans, le_of_eq}
 use Rattle.std.proofs.lemmas.List.{length-map}
 use Rattle.std.proofs.lemmas.Bool.Decides.{nat_tests}
-use Rattle.std.specs.Prelude.{slice_get, slice_set, option_map, IsSome, map, is_some}
-use Rattle.std.specs.Ordering.{nat_cmp, eq_by_cmp, is_eq}
+use Rattle.std.specs.Prelude.{slice_get, slice_set, option_map, IsSome, is_some}
+use Rattle.std.specs.Ordering.{nat_cmp, eq_by_cmp}
 use Rattle.std.specs.Cmp.{nat_cmp_total, eq_by_cmp_equiv}
 use Rattle.std.specs.BTreeMap.{is_at}
 use Rattle.std.specs.Map.{lookup, set_value}
 use Rattle.std.specs.FinMap as finite
-use Rattle.std.specs.FinMap.{FinMap, same_map, get-insert, get-empty, nat_cmp-IsAntisymmetric}
+use Rattle.std.specs.FinMap.{same_map, get-insert, get-empty, nat_cmp-IsAntisymmetric}
 use Rattle.std.proofs.lemmas.Map.{lookup-set_value}
 use Rattle.std.proofs.lemmas.Option.{slice_get_past}
 use Rattle.std.specs.List.{list_any}
@@ -16,7 +16,7 @@ use Rattle.std.proofs.lemmas.Map.Steps.{le-length_from_below}
 use lib.Dec.{eqb}
 use Rattle.ca_model.specs.declared.values.Value.{Value}
 use Rattle.ca_model.specs.declared.values.Value.TheVariants as v
-use Rattle.ca_model.specs.Shared.{Blocks, Block, live_block, if_live, cell_at, cell, put_cell, insert_if, with_cell, died, IsHeapStart}
+use Rattle.ca_model.specs.Shared.{Blocks, Block, if_live, cell_at, cell, put_cell, insert_if, with_cell, died, IsHeapStart}
 use Rattle.ca_memory.specs.declared.blocks.Slot.{Slot}
 use Rattle.ca_memory.specs.declared.blocks.Cells.{Cells}
 use Rattle.ca_memory.specs.Kept.{is_live, cells_of, block_of, blocks_of}

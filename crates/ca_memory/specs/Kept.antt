@@ -1,5 +1,5 @@
 -- What the tables of a memory stand for.
-use Rattle.std.specs.Prelude.{◌≡◌, ◌≤◌, ◌<◌, ◌^◌, ℕ, true, false, Bool, List, [], ◌∷◌, map, length, Option, Some}
+use Rattle.std.specs.Prelude.{◌≡◌, ◌≤◌, ◌<◌, ◌^◌, ℕ, true, false, Bool, List, map, length, Some}
 use Rattle.std.specs.FinMap as finite
 use Rattle.ca_model.specs.declared.values.Value.{Value}
 use Rattle.ca_model.specs.Shared.{Blocks, Block, live_cells}

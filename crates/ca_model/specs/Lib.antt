@@ -29,6 +29,7 @@ pub mod Schedules
 pub mod Runner
 pub mod WellFormed
 pub mod KnownGlobals
+pub mod Bounds
 pub mod Waits
 pub mod Begun
 pub mod Follows

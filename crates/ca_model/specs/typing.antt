@@ -23,3 +23,4 @@ pub mod Signatures
 pub mod Functions
 pub mod Programs
 pub mod Typing
+pub mod Sources

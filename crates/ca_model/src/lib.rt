@@ -2,6 +2,7 @@
 #![tactic(auto)]
 
 mod attempt_laws;
+mod checked;
 mod frame_laws;
 mod item_laws;
 mod lists;
@@ -15,6 +16,7 @@ mod typing_laws;
 mod values;
 
 pub use attempt_laws::{projections_have_no_marks, retries_are_bounded};
+pub use checked::Checked;
 pub use frame_laws::{
     control_follows_links, frames_are_in_progress, items_begin_once, silent_steps_end,
 };

@@ -115,3 +115,6 @@ pub fn suits(kind: LoadKind, v: Value) -> bool
         (LoadKind::Int | LoadKind::Thread, Value::Addr(_)) => false,
     }
 }
+
+#[cfg(test)]
+mod tests;

@@ -3,7 +3,6 @@ use Rattle.std.specs.Prelude.{ℕ, List, [], ◌∷◌, ◌++◌, length, Option
 use Rattle.ca_model.specs.declared.tree.Stmt.{Stmt as TypedStmt}
 use Rattle.ca_model.specs.declared.types.TypeFault.{TypeFault}
 use Rattle.ca_model.specs.declared.types.ObjectType.{ObjectType}
-use Rattle.ca_model.specs.typing.Places.{behind}
 use Rattle.ca_model.specs.typing.Scopes.{Context}
 
 -- a place in a function: what is visible, how many of the visible locals are of blocks round this one, how many parameters and locals there are so far, and what the function gives

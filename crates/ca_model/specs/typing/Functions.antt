@@ -1,7 +1,6 @@
 -- Definitions of functions (C11 6.9.1).
 use Rattle.std.specs.Prelude.{ℕ, List, [], ◌∷◌, ◌++◌, length, Option, Some, None}
 use Rattle.ca_tree.specs.declared.tree.Name.{Name}
-use Rattle.ca_tree.specs.declared.tree.ResultType.TheVariants as result
 use Rattle.ca_tree.specs.declared.tree.Parameter.{Parameter}
 use Rattle.ca_tree.specs.declared.tree.Body.{Body}
 use Rattle.ca_tree.specs.declared.tree.Function.{Function}
@@ -9,7 +8,6 @@ use Rattle.ca_model.specs.declared.tree.Act.TheVariants as act
 use Rattle.ca_model.specs.declared.tree.Function.{Function as TypedFunction}
 use Rattle.ca_model.specs.declared.types.TypeFault.{TypeFault}
 use Rattle.ca_model.specs.declared.types.ObjectType.{ObjectType}
-use Rattle.ca_model.specs.typing.Places.{behind}
 use Rattle.ca_model.specs.typing.Scopes.{Context}
 use Rattle.ca_model.specs.typing.Bodies.{Inside, Told, and_then, in_order}
 use Rattle.ca_model.specs.typing.Locals.{declared, declared_faults, item}

@@ -23,7 +23,7 @@ use Rattle.ca_model.specs.declared.types.Meaning.{Meaning}
 use Rattle.ca_model.specs.declared.types.Meaning.TheVariants as means
 use Rattle.ca_model.specs.declared.types.TypeKind.TheVariants as wrong
 use Rattle.ca_model.specs.typing.Faults.{fault, unless}
-use Rattle.ca_model.specs.typing.Types.{int, thread, same_object, cells}
+use Rattle.ca_model.specs.typing.Types.{int, thread, same_object}
 use Rattle.ca_model.specs.typing.Scopes.{Scope, find}
 use Rattle.ca_model.specs.typing.TypeNames.{written_type, type_faults, cells_of}
 use Rattle.ca_model.specs.typing.Known.{Known, with_faults, in_scope, with_each}

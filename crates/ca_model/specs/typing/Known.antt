@@ -3,7 +3,6 @@ use Rattle.std.specs.Prelude.{ℕ, List, [], ◌∷◌, ◌++◌}
 use Rattle.ca_model.specs.declared.tree.Function.{Function as TypedFunction}
 use Rattle.ca_model.specs.declared.tree.GlobalStart.{GlobalStart}
 use Rattle.ca_model.specs.declared.types.TypeFault.{TypeFault}
-use Rattle.ca_model.specs.typing.Types.{cells}
 use Rattle.ca_model.specs.typing.Scopes.{Scope, Context}
 
 -- what is known behind some declarations: what they declare, the typed tree so far, and what is wrong in them

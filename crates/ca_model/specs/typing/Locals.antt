@@ -1,5 +1,5 @@
 -- Declarations of parameters and locals (C11 6.2.1, 6.7).
-use Rattle.std.specs.Prelude.{ℕ, ◌+◌, ◌-◌, pos, Bool, not, ◌||◌, nat_lt, List, [], ◌∷◌, ◌++◌, take, length, Option, Some, None, if◌then◌else◌}
+use Rattle.std.specs.Prelude.{ℕ, ◌+◌, ◌-◌, Bool, not, ◌||◌, nat_lt, List, [], ◌∷◌, ◌++◌, take, length, Option, Some, None, if◌then◌else◌}
 use Rattle.std.specs.Str.{bytes_eq}
 use Rattle.std.specs.List.{list_any}
 use Rattle.ca_tree.specs.declared.tree.Name.{Name}
@@ -23,7 +23,6 @@ use Rattle.ca_model.specs.declared.types.Meaning.TheVariants as means
 use Rattle.ca_model.specs.declared.types.TypeKind.TheVariants as wrong
 use Rattle.ca_model.specs.typing.Faults.{fault, unless, given}
 use Rattle.ca_model.specs.typing.Types.{thread}
-use Rattle.ca_model.specs.typing.Places.{behind}
 use Rattle.ca_model.specs.typing.TypeNames.{written_type, type_faults}
 use Rattle.ca_model.specs.typing.Targets.{Aim}
 use Rattle.ca_model.specs.typing.RightSides.{right_faults, set_act}
@@ -39,12 +38,12 @@ is_taken c n = is_library_word n || list_any (λ x. bytes_eq n x.0) (take (lengt
 abbrev pub most_locals : ℕ
 most_locals = 128
 
--- a local behind its declarator: y more than 128 are visible
+-- a local behind its declarator; one more than 128 isn't declared
 abbrev pub declared : Inside → Name → Option ObjectType → Inside
 declared c n t =
     if nat_lt c.count most_locals
     then with_locals c ((n.text, means.Local (record { 0 = c.count }) t) ∷ c.context.scope.locals) (c.count + 1)
-    else record c { count = c.count + 1 }
+    else c
 
 abbrev pub declared_faults : Inside → Name → List TypeFault
 declared_faults c n = unless (not (is_taken c n.text)) (fault n.pos wrong.Twice) ++ unless (nat_lt c.count most_locals) (fault n.pos wrong.TooManyLocals)

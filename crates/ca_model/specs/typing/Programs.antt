@@ -5,7 +5,6 @@ use Rattle.std.specs.List.{list_any}
 use Rattle.ca_tree.specs.declared.text.Pos.{Pos}
 use Rattle.ca_tree.specs.declared.tree.Base.{Base}
 use Rattle.ca_tree.specs.declared.tree.Base.TheVariants as base
-use Rattle.ca_tree.specs.declared.tree.Globals.TheVariants as globals
 use Rattle.ca_tree.specs.declared.tree.ResultType.{ResultType}
 use Rattle.ca_tree.specs.declared.tree.ResultType.TheVariants as result
 use Rattle.ca_tree.specs.declared.tree.Function.{Function}
@@ -15,7 +14,6 @@ use Rattle.ca_tree.specs.declared.tree.Program.{Program}
 use Rattle.ca_model.specs.declared.types.TypeFault.{TypeFault}
 use Rattle.ca_model.specs.declared.types.TypeKind.TheVariants as wrong
 use Rattle.ca_model.specs.typing.Faults.{fault, unless}
-use Rattle.ca_model.specs.typing.Types.{cells}
 use Rattle.ca_model.specs.typing.Calls.{main_name}
 use Rattle.ca_model.specs.typing.Known.{Known, with_each}
 use Rattle.ca_model.specs.typing.Structs.{with_struct}

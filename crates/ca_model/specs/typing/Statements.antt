@@ -21,7 +21,6 @@ use Rattle.ca_model.specs.declared.types.TypeKind.TheVariants as wrong
 use Rattle.ca_model.specs.declared.types.Wanted.TheVariants.{Scalar, OfType}
 use Rattle.ca_model.specs.typing.Faults.{fault, unless, given}
 use Rattle.ca_model.specs.typing.Types.{is_void}
-use Rattle.ca_model.specs.typing.Places.{behind}
 use Rattle.ca_model.specs.typing.Uses.{value_in, faults_in}
 use Rattle.ca_model.specs.typing.SimpleStatements.{simple_faults, simple_act}
 use Rattle.ca_model.specs.typing.Bodies.{Inside, Told, nothing, and_then, in_order, inner, left}

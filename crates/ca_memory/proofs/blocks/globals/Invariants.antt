@@ -1,4 +1,4 @@
-use Rattle.std.proofs.Common.{◌≡◌, ◌≤◌, ℕ, length, drop}
+use Rattle.std.proofs.Common.{◌≡◌, ◌≤◌, length, drop}
 use Rattle.ca_memory.specs.Kept.{blocks_of}
 use Rattle.ca_model.specs.Opening.{globals_from}
 use Rattle.ca_memory.proofs.blocks.globals.Given as goal

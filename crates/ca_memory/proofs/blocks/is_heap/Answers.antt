@@ -1,4 +1,4 @@
-use Rattle.std.proofs.Common.{◌≡◌, Bool, true, false, sym, ap, ◌∙◌}
+use Rattle.std.proofs.Common.{sym}
 use Rattle.ca_memory.proofs.Tables.{live_slot, starts_where, starts_none, kept_at, absent}
 use Rattle.ca_memory.proofs.blocks.is_heap.Goals as goal
 

@@ -1,4 +1,4 @@
-use Rattle.std.proofs.Common.{◌⊎◌, inl, inr, refl, sym, ◌∙◌}
+use Rattle.std.proofs.Common.{inl, inr, refl, sym, ◌∙◌}
 use Rattle.ca_model.specs.typing.Programs.{known}
 use Rattle.ca_model.specs.typing.Typing.{typed_by}
 use Rattle.ca_model.proofs.FirstFaults.{some_first, some_there, one_first}

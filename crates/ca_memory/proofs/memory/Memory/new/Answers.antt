@@ -1,7 +1,6 @@
-use Rattle.std.proofs.Common.{All, map, ◌≤◌, sym, subst, ◌∙◌}
+use Rattle.std.proofs.Common.{All, ◌≤◌, sym, subst, ◌∙◌}
 use Rattle.ca_model.specs.declared.tree.GlobalStart.{GlobalStart}
 use Rattle.ca_memory.specs.Kept.{most_cells}
-use Rattle.ca_memory.specs.Zeros.{zeroed}
 use Rattle.ca_memory.proofs.Globals.{zeroed_short}
 use Rattle.ca_memory.proofs.memory.Memory.new.Goals as goal
 

@@ -1,4 +1,4 @@
-use Rattle.std.proofs.Common.{◌≡◌, ◌≤◌, ◌<◌, ◌+◌, ◌^◌, ℕ, length, ◌-◌, arith, sym, ap, subst, ◌∙◌, true, cond}
+use Rattle.std.proofs.Common.{◌≤◌, length, ◌-◌, arith, sym, subst, ◌∙◌, true}
 use Rattle.ca_memory.specs.Kept.{AreCounts, blocks_of}
 use Rattle.ca_memory.proofs.Counts.{ended}
 use Rattle.ca_memory.proofs.Tables.{died_there}

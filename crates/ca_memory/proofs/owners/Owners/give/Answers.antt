@@ -1,7 +1,7 @@
-use Rattle.std.proofs.Common.{◌≡◌, ◌<◌, ℕ, length, Some, None, refl, sym, ap, subst, ◌∙◌}
+use Rattle.std.proofs.Common.{◌≡◌, ◌<◌, Some, refl, sym, ap, subst, ◌∙◌}
 use Rattle.std.specs.FinMap as map
 use Rattle.ca_memory.specs.Mutexes.{Mutexes}
-use Rattle.ca_memory.proofs.OwnerTables.{read, took, gave, all_free, mutexes_of, other_owner, same_owner}
+use Rattle.ca_memory.proofs.OwnerTables.{read, gave, other_owner, same_owner}
 use Rattle.ca_memory.proofs.owners.Owners.give.Goals as goal
 
 pub returns-then-ne-clause-err : goal.returns-then-ne-clause-err

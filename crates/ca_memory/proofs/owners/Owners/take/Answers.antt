@@ -1,7 +1,7 @@
-use Rattle.std.proofs.Common.{◌≡◌, ◌<◌, ℕ, length, Some, None, refl, sym, ap, subst, ◌∙◌}
+use Rattle.std.proofs.Common.{◌≡◌, ◌<◌, Some, None, refl, sym, ap, subst, ◌∙◌}
 use Rattle.std.specs.FinMap as map
 use Rattle.ca_memory.specs.Mutexes.{Mutexes}
-use Rattle.ca_memory.proofs.OwnerTables.{read, took, gave, all_free, mutexes_of}
+use Rattle.ca_memory.proofs.OwnerTables.{read, took}
 use Rattle.ca_memory.proofs.owners.Owners.take.Goals as goal
 
 pub returns-in-Some-clause-err : goal.returns-in-Some-clause-err

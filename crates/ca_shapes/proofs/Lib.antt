@@ -1,0 +1,6 @@
+mod TokenWords
+mod ExpressionShapes
+mod PhraseShapes
+mod StatementShapes
+mod DeclarationShapes
+mod TextWords
