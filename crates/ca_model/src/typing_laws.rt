@@ -2,7 +2,11 @@
 
 ghost use Rattle.std.specs.Prelude.{◌≡◌, ◌⊎◌};
 ghost use Rattle.ca_tree.specs.declared.tree.Program.{Program};
+ghost use Rattle.ca_tree.specs.ProgramTrees.{IsWrittenProgram};
 ghost use Rattle.ca_model.specs.Codes.{Typed};
+ghost use Rattle.ca_model.specs.WellFormed.{IsWellFormed};
+ghost use Rattle.ca_model.specs.KnownGlobals.{KnowsItsGlobals};
+ghost use Rattle.ca_model.specs.Bounds.{IsBounded};
 ghost use Rattle.ca_model.specs.declared.types.TypeFault.{TypeFault};
 ghost use Rattle.ca_model.specs.typing.Typing.{IsTyping, IsFault};
 
@@ -12,4 +16,12 @@ pub fn a_program_has_a_typing_or_a_fault()
     ensures never_both { (p : Program) (t : Typed) (x : TypeFault) → IsTyping p t → IsFault p x → ⊥ }
     ensures one_typing { (p : Program) (t u : Typed) → IsTyping p t → IsTyping p u → t ≡ u }
     ensures one_fault { (p : Program) (x y : TypeFault) → IsFault p x → IsFault p y → x ≡ y }
+{}
+
+/// The typed tree of a program of a text within the limits has its numbers, and acts that stand where they may, names its own
+/// functions, mutexes and globals alone, and keeps within the limits.
+pub fn typed_programs_are_well_formed()
+    ensures well_formed { (p : Program) (t : Typed) → IsWrittenProgram p → IsTyping p t → IsWellFormed t }
+    ensures globals { (p : Program) (t : Typed) → IsWrittenProgram p → IsTyping p t → KnowsItsGlobals t }
+    ensures bounded { (p : Program) (t : Typed) → IsWrittenProgram p → IsTyping p t → IsBounded t }
 {}

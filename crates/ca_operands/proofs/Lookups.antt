@@ -1,12 +1,14 @@
 -- What a name means, by the parts of a scope.
 use Rattle.std.proofs.Common.{arith, ◌≡◌, ℕ, ◌-◌, List, [], ◌∷◌, map, take, drop, reverse, length, None, Some, refl, ap, sym, ◌∙◌, length-drop}
 use denote.Ref.{Bor}
-use Rattle.std.specs.Prelude.{Bool, true, false, not, suc, nat_lt, Option, is_some, cond, if◌then◌else◌, ◌+◌, ◌++◌, position}
+use Rattle.std.specs.Prelude.{Bool, true, false, not, ◌||◌, suc, nat_lt, Option, is_some, cond, if◌then◌else◌, ◌+◌, ◌++◌, position}
 use Rattle.std.specs.Map.{lookup, keys_of}
 use Rattle.std.specs.List.{position_or_len}
 use Rattle.std.specs.Str.{bytes_eq}
+use Rattle.std.specs.List.{list_any, take-map}
+use Rattle.std.proofs.lemmas.List.Sorted.{list_any-IsPermutation, IsPermutation-reverse}
 use Rattle.std.proofs.lemmas.List.{take-append-drop, reverse-append, length-reverse, drop-map}
-use Rattle.std.proofs.Math.Seq.{drop-append_seam}
+use Rattle.std.proofs.Math.Seq.{drop-append_seam, take-append_seam}
 use Rattle.std.proofs.lemmas.List.{length-map}
 use Rattle.ca_model.specs.declared.types.Meaning.{Meaning}
 use Rattle.ca_tree.specs.declared.numbers.StructId.{StructId}
@@ -112,3 +114,27 @@ pub tag_place : (structs : Structs) (globals : Globals) (locals : List LocalName
 tag_place structs globals locals n s i same is =
     ap named_id is ∙ by_place (position_or_len (λ (x : Bor (List ℕ)). bytes_eq n x.now) (keys_of structs)) (length (keys_of structs)) _ refl
     ∙ sym (numbered_tag n 0 structs) ∙ ap (λ (s : Scope). struct_numbered 0 n s.structs) same
+
+-- ---- the locals of a block
+
+-- the latest stand first
+latest : {A : Type 0} (n : ℕ) (xs : List A) → take (length xs - n) (reverse xs) ≡ reverse (drop n xs)
+latest n xs =
+    ap (λ k. take k (reverse xs)) (sym (length-reverse (drop n xs) ∙ length-drop n xs))
+    ∙ ap (take (length (reverse (drop n xs)))) (ap reverse (sym (take-append-drop n xs)) ∙ reverse-append (take n xs) (drop n xs))
+    ∙ take-append_seam (reverse (drop n xs)) (reverse (take n xs))
+
+any_of : (p : List ℕ × Meaning → Bool) (xs : List LocalName) → list_any p (map shown_local xs) ≡ list_any (λ x. p (shown_local x)) xs
+any_of p [] = refl
+any_of p (x ∷ xs) = ap (λ b. p (shown_local x) || b) (any_of p xs)
+
+-- whether one behind the earliest n passes a test
+pub named_behind : (p : List ℕ × Meaning → Bool) (xs : List LocalName) (ls : List (List ℕ × Meaning)) (n : ℕ) → map shown_local (reverse xs) ≡ ls
+    → list_any (λ x. p (shown_local x)) (drop n xs) ≡ list_any p (take (length ls - n) ls)
+named_behind p xs ls n is =
+    list_any-IsPermutation (λ x. p (shown_local x)) (drop n xs) (reverse (drop n xs)) (IsPermutation-reverse (drop n xs))
+    ∙ ap (list_any (λ x. p (shown_local x))) (sym (latest n xs))
+    ∙ sym (any_of p (take (length xs - n) (reverse xs)))
+    ∙ ap (list_any p) (sym (take-map shown_local (length xs - n) (reverse xs)))
+    ∙ ap (λ k. list_any p (take (k - n) (map shown_local (reverse xs)))) (sym (length-map (reverse xs) shown_local ∙ length-reverse xs))
+    ∙ ap (λ ls. list_any p (take (length ls - n) ls)) is

@@ -1,11 +1,13 @@
 //! What is visible at a place of a program.
 
-ghost use Rattle.std.specs.Prelude.{◌≡◌, ◌<◌, ◌≤◌, ◌-◌, true, [], ◌∷◌, map, drop, length, MatchOption, OnOk, OnErr};
+ghost use Rattle.std.specs.List.{list_any};
+ghost use Rattle.std.specs.Str.{bytes_eq};
+ghost use Rattle.std.specs.Prelude.{◌≡◌, ◌<◌, ◌≤◌, ◌-◌, true, [], ◌∷◌, map, take, drop, length, MatchOption, OnOk, OnErr};
 ghost use Rattle.ca_model.specs.typing.Types.{cells};
 ghost use Rattle.ca_model.specs.typing.Scopes.{find, numbered, struct_numbered, meaning, fields_of, field_count, field_of};
 ghost use Rattle.ca_model.specs.typing.Globals.{with_name};
 ghost use Rattle.ca_model.specs.typing.Structs.{is_tag, with_tag};
-ghost use Rattle.ca_operands.specs.Shown.{same_text, shown, shown_field, Completes, IsSmall};
+ghost use Rattle.ca_operands.specs.Shown.{same_text, shown, shown_field, shown_local, Completes, IsSmall};
 ghost use Rattle.indexmap.specs.IndexMap.{insert_entry};
 
 use ca_model::{Kind, Meaning, ObjectType};
@@ -137,6 +139,14 @@ impl<'a> Scope<'a> {
         self.locals.len()
     }
 
+    /// Whether a local has this name that is none of the earliest so many.
+    pub fn has_local_behind(&self, count: usize, name: &[u8]) -> bool
+        requires { count ≤ length self.now.locals }
+        ensures { result ≡ list_any (λ x. bytes_eq name.now x.0) (take (length self.now.locals - count) self.now.locals) }
+    {
+        has_name(&self.locals[count..], name)
+    }
+
     /// Only the earliest so many locals stay visible.
     pub fn keep_locals(&mut self, count: usize)
         ensures { self.new ≡ record self.old { locals = drop (length self.old.locals - count) self.old.locals } }
@@ -193,6 +203,17 @@ fn put<'a>(
 {
     structs.insert(tag, fields)?;
     Ok(())
+}
+
+fn has_name(locals: &[LocalName<'_>], name: &[u8]) -> bool
+    ensures { result ≡ list_any (λ l. bytes_eq name.now (shown_local l).0) locals.now }
+{
+    for local in locals {
+        if name == local.name {
+            return true;
+        }
+    }
+    false
 }
 
 fn numbered(fields: &[FieldOf<'_>], name: &[u8]) -> Option<(u32, Option<ObjectType>)>

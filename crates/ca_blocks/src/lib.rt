@@ -1,0 +1,8 @@
+//! Locals, blocks and statements: their typed trees, and exactly their faults.
+#![tactic(auto)]
+
+mod inside;
+mod locals;
+mod statements;
+
+pub use inside::Inside;
