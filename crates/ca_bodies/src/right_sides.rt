@@ -46,13 +46,15 @@ fn count_in<'a>(
     }
 }
 
-fn type_in<'a>(scope: &Scope<'a>, of: &'a Type) -> Option<ObjectType>
+/// A type as it is written.
+pub fn type_in<'a>(scope: &Scope<'a>, of: &'a Type) -> Option<ObjectType>
     ensures { result ≡ type_names.type_in scope.now of.now }
 {
     written_type(scope, &of.base, of.stars)
 }
 
-fn both_same(a: Option<ObjectType>, b: Option<ObjectType>) -> bool
+/// Whether two types are one; a refused type is as any.
+pub fn both_same(a: Option<ObjectType>, b: Option<ObjectType>) -> bool
     ensures { result ≡ type_names.both_same a b }
 {
     match (a, b) {
