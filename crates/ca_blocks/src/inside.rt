@@ -1,7 +1,9 @@
 //! A place in a function.
 
-ghost use Rattle.std.specs.Prelude.{◌≡◌, ◌≤◌, length};
+ghost use Rattle.std.specs.Prelude.{◌≡◌, ◌≤◌, [], length};
+ghost use Rattle.ca_bodies.specs.Functions.{context};
 ghost use Rattle.ca_model.specs.typing.Bodies.{inner};
+ghost use Rattle.ca_model.specs.typing.Functions.{begun};
 ghost use Rattle.ca_blocks.specs.Shown.{LeavesTo};
 
 use ca_bodies::Functions;
@@ -33,6 +35,44 @@ impl<'a> Model for Inside<'a> {
 }
 
 impl<'a> Inside<'a> {
+    /// Where the parameters of a function begin, with what is visible outside of functions, and what the function gives.
+    pub fn begin(
+        mut scope: Scope<'a>,
+        functions: Functions<'a>,
+        gives: Option<ObjectType>,
+    ) -> Inside<'a>
+        ensures { result ≡ begun (context scope.entry functions.entry) gives }
+    {
+        scope.keep_locals(0);
+        Inside {
+            scope,
+            functions,
+            outer: 0,
+            count: 0,
+            result: gives,
+        }
+    }
+
+    /// What is visible outside of functions, and the functions.
+    pub fn end(self) -> (Scope<'a>, Functions<'a>)
+        ensures { context result.0 result.1 ≡ record self.entry.context { scope = record self.entry.context.scope { locals = [] } } }
+    {
+        let Inside {
+            mut scope,
+            functions,
+            ..
+        } = self;
+        scope.keep_locals(0);
+        (scope, functions)
+    }
+
+    /// How many parameters and locals are declared.
+    pub fn count(&self) -> u32
+        ensures { result ≡ self.now.count }
+    {
+        self.count
+    }
+
     /// What `leave` wants, to come back here.
     pub(crate) fn place(&self) -> (usize, usize)
         ensures was { result ≡ (length self.now.context.scope.locals, self.now.outer) }

@@ -49,8 +49,8 @@ impl<'a> Inside<'a> {
         faults.unless(self.count < MOST_LOCALS, name.pos, TypeKind::TooManyLocals);
     }
 
-    /// A local of a type behind its declarator; one more than 128 isn't declared. Its faults are noted.
-    pub(crate) fn declare(
+    /// A parameter or local of a type behind its declarator; one more than 128 isn't declared. Its faults are noted.
+    pub fn declare(
         &mut self,
         name: &'a Name,
         of: Option<ObjectType>,

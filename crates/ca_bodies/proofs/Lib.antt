@@ -1,2 +1,4 @@
+pub mod Changed
 pub mod Arguments
 pub mod CallFaults
+pub mod Numbering

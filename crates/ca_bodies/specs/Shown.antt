@@ -1,8 +1,9 @@
 -- What the code's own types show.
-use Rattle.std.specs.Prelude.{◌≡◌, ℕ, List, map, Option, Some, None, option_map}
+use Rattle.std.specs.Prelude.{◌≡◌, ℕ, ◌+◌, List, [], ◌∷◌, map, Option, Some, None, option_map, if◌then◌else◌}
+use Rattle.std.specs.Str.{bytes_eq}
 use denote.Ref.{Bor}
 use Rattle.ca_tree.specs.declared.numbers.FunId.{FunId}
-use Rattle.ca_model.specs.typing.Scopes.{Signature, FunctionOf, find, defined_as}
+use Rattle.ca_model.specs.typing.Scopes.{Signature, FunctionOf, find}
 use Rattle.ca_model.specs.typing.Targets.{Aim}
 use Rattle.ca_operands.specs.Shown.{shown_entry}
 use Rattle.ca_bodies.specs.declared.functions.Signature.{Signature as SignatureOf}
@@ -26,9 +27,14 @@ abbrev pub id_or_first : Option FunId → FunId
 id_or_first None = record { 0 = 0 }
 id_or_first (Some f) = f
 
+-- the number of the first definition with a name
+abbrev pub number_in : List ℕ → ℕ → List (List ℕ) → Option FunId
+number_in n k [] = None
+number_in n k (x ∷ xs) = if bytes_eq n x then Some (record { 0 = k }) else number_in n (k + 1) xs
+
 -- the map gives each name the number of its first definition
 abbrev pub IsNumbering : List (Bor (List ℕ) × FunId) → List (Bor (List ℕ)) → Type 0
-IsNumbering numbers defined = (n : List ℕ) → id_or_first (find n (map shown_entry numbers)) ≡ record { 0 = defined_as 0 n (map (λ d. d.now) defined) }
+IsNumbering numbers defined = (n : List ℕ) → find n (map shown_entry numbers) ≡ number_in n 0 (map (λ d. d.now) defined)
 
 -- a function that is called, where a name means one
 abbrev pub shown_called : Option (Bor SignatureOf) → Option Signature

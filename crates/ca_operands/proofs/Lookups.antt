@@ -54,15 +54,15 @@ none_if (Some a) h = absurd cc
 pub is_declared : (n : Bor (List ℕ)) (globals : Globals) (b : Bool) → b ≡ is_some (lookup (λ k. bytes_eq n.now k.now) globals) → is_some (find n.now (map shown_entry globals)) ≡ b
 is_declared n globals b is = ap (λ (x : Option Meaning). is_some x) (sym (looked_up n.now globals)) ∙ sym is
 
-inserted : (n : Bor (List ℕ)) (m : Meaning) (globals : Globals) → find n.now (map shown_entry globals) ≡ None
+pub inserted : {A : Type 0} (n : Bor (List ℕ)) (m : A) (globals : List (Bor (List ℕ) × A)) → find n.now (map shown_entry globals) ≡ None
     → map shown_entry (insert_entry (λ a b. bytes_eq a.now b.now) globals n m) ≡ map shown_entry globals ++ (n.now, m) ∷ []
-inserted n m [] none = refl
-inserted n m (e ∷ es) none = by (inserted n m es) (bytes_eq n.now e.0.now) none
+inserted {A = A} n m [] none = refl
+inserted {A = A} n m (e ∷ es) none = by (inserted n m es) (bytes_eq n.now e.0.now) none
   where
     by : (find n.now (map shown_entry es) ≡ None → map shown_entry (insert_entry (λ a b. bytes_eq a.now b.now) es n m) ≡ map shown_entry es ++ (n.now, m) ∷ []) → (b : Bool) → (if b then Some e.1 else find n.now (map shown_entry es)) ≡ None
         → map shown_entry (if b then (e.0, m) ∷ es else e ∷ insert_entry (λ a b. bytes_eq a.now b.now) es n m) ≡ shown_entry e ∷ (map shown_entry es ++ (n.now, m) ∷ [])
     by back true h = absurd cc
-    by back false h = ap (λ (xs : List (List ℕ × Meaning)). shown_entry e ∷ xs) (back h)
+    by back false h = ap (λ (xs : List (List ℕ × A)). shown_entry e ∷ xs) (back h)
 
 -- a new name stands last, and one that is declared changes nothing
 pub declared_new : (structs : Structs) (globals more : Globals) (locals : List LocalName) (n : Bor (List ℕ)) (m : Meaning) (s : Scope)
