@@ -93,3 +93,7 @@ pub mod LocalCounts
 pub mod CountedKnowns
 pub mod CountedPrograms
 pub mod TypedCounts
+pub mod FittingItems
+pub mod PassedLists
+pub mod RisingNumbers
+pub mod FittingPlans

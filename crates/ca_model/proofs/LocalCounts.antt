@@ -1,7 +1,7 @@
 -- How many locals there are behind statements: never fewer than before, and at most 128 where nothing is wrong.
-use Rattle.std.proofs.Common.{◌≡◌, ◌≤◌, ◌<◌, ℕ, ◌+◌, Bool, true, false, not, List, [], ◌∷◌, ◌++◌, Option, Some, None, refl, sym, subst, arith}
-use Rattle.std.specs.Prelude.{nat_lt, if◌then◌else◌, length, is_some}
-use Rattle.std.proofs.lemmas.Bool.{ltb-true, and_parts}
+use Rattle.std.proofs.Common.{◌≡◌, ◌≤◌, ◌<◌, ℕ, ◌+◌, Bool, true, List, [], ◌∷◌, ◌++◌, Option, Some, None, sym, subst, arith}
+use Rattle.std.specs.Prelude.{length, is_some}
+use Rattle.std.proofs.lemmas.Bool.{and_parts}
 use Rattle.ca_tree.specs.declared.tree.Base.{Base}
 use Rattle.ca_tree.specs.declared.tree.Name.{Name}
 use Rattle.ca_tree.specs.declared.tree.LocalDeclarator.{LocalDeclarator}
@@ -16,12 +16,11 @@ use Rattle.ca_tree.specs.StatementTrees.{Part, Unbraced, A_statement, A_body, St
 use Rattle.ca_tree.specs.StatementTrees as tree
 use Rattle.ca_model.specs.declared.types.ObjectType.{ObjectType}
 use Rattle.ca_model.specs.declared.types.TypeFault.{TypeFault}
-use Rattle.ca_model.specs.declared.types.TypeKind.TheVariants as wrong
-use Rattle.ca_model.specs.typing.Faults.{fault, unless, given}
+use Rattle.ca_model.specs.typing.Faults.{given}
 use Rattle.ca_model.specs.typing.TypeNames.{written_type, type_faults}
 use Rattle.ca_model.specs.typing.RightSides.{right_faults}
 use Rattle.ca_model.specs.typing.Bodies.{Inside, Told, in_order, inner, left}
-use Rattle.ca_model.specs.typing.Locals.{declared, declared_faults, is_taken, local_aim, a_local, a_thread, some_locals}
+use Rattle.ca_model.specs.typing.Locals.{declared, declared_faults, local_aim, a_local, a_thread, some_locals}
 use Rattle.ca_model.specs.typing.Statements.{a_first, told}
 use Rattle.ca_model.specs.typing.Signatures.{parameter_type, all_named}
 use Rattle.ca_model.specs.typing.Functions.{with_parameter, parameter_name_faults, a_parameter, parameters_told}

@@ -18,7 +18,6 @@ use Rattle.ca_model.specs.declared.tree.Item.{Item}
 use Rattle.ca_model.specs.declared.tree.Stmt.{Stmt as TypedStmt}
 use Rattle.ca_model.specs.declared.types.TypeFault.{TypeFault}
 use Rattle.ca_model.specs.declared.types.ObjectType.{ObjectType}
-use Rattle.ca_model.specs.declared.types.Meaning.{Meaning}
 use Rattle.ca_model.specs.declared.types.Meaning.TheVariants as means
 use Rattle.ca_model.specs.Codes.{Typed}
 use Rattle.ca_model.specs.typing.Faults.{given}

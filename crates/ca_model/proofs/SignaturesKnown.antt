@@ -4,6 +4,7 @@ use Rattle.std.specs.Prelude.{slice_get, Contains, ◌⊎◌, ◌&&◌, ◌||◌
 use Rattle.std.specs.Option.{is_some}
 use Rattle.std.proofs.lemmas.Bool.{and_parts}
 use Rattle.std.proofs.lemmas.List.{length-map}
+use Rattle.std.proofs.lemmas.List.Elements.{Contains-append_left}
 use Rattle.ca_tree.specs.declared.tree.Function.{Function}
 use Rattle.ca_tree.specs.Names.{is_library_word}
 use Rattle.ca_model.specs.declared.types.ObjectType.{ObjectType}
@@ -15,7 +16,7 @@ use Rattle.ca_model.specs.typing.Signatures.{parameter_type, signature, void_poi
 use Rattle.ca_model.proofs.Composition.{get_right}
 use Rattle.ca_model.proofs.Law.{get_either}
 use Rattle.ca_model.proofs.Steps.{get_left}
-use Rattle.ca_model.proofs.Members.{in_none, in_cons, at_head, at_tail}
+use Rattle.ca_model.proofs.Members.{in_none, in_cons, at_head}
 use Rattle.ca_model.proofs.KnownSoFar.{found_new, FirstThere}
 use Rattle.ca_model.proofs.GlobalsKnown.{named_by, kept_name, either_name, same_structs, inside_some}
 
@@ -53,7 +54,7 @@ kept_first false g f = refl
 there_too : (b : Bool) (g : Signature) (f : FunctionOf) → FirstThere f → FirstThere (declared_too b g f)
 there_too true g f h = inl refl
 there_too false g f (inl has) = inl has
-there_too false g f (inr at) = inr (at_tail g f.prototypes f.first at)
+there_too false g f (inr at) = inr (Contains-append_left f.prototypes (g ∷ []) f.first at)
 
 there_first : (b : Bool) (g : Signature) → FirstThere (declared_first b g)
 there_first true g = inl refl

@@ -1,5 +1,5 @@
 -- What a typed program counts: its items and functions by their numbers, its `main` among them, and how many things there are.
-use Rattle.std.proofs.Common.{◌≡◌, ◌≤◌, ◌<◌, ℕ, zero, suc, ◌+◌, ◌-◌, ◌++◌, append-nil, Bool, true, false, List, [], ◌∷◌, length, Option, Some, refl, sym, ◌∙◌, subst, arith}
+use Rattle.std.proofs.Common.{◌≡◌, ◌≤◌, ◌<◌, ℕ, zero, suc, ◌+◌, ◌-◌, append-nil, Bool, true, false, List, [], ◌∷◌, length, Option, Some, refl, sym, ◌∙◌, subst, arith}
 use Rattle.std.specs.Prelude.{Contains, slice_get, is_some, ◌||◌, if◌then◌else◌}
 use Rattle.std.specs.List.{list_any}
 use Rattle.ca_tree.specs.declared.numbers.FunId.{FunId}
@@ -27,7 +27,7 @@ use Rattle.ca_model.proofs.NoFaults.{held_by_none}
 use Rattle.ca_model.proofs.NumberedLists.{Ascends, how_many, number_of, parted, last_number}
 use Rattle.ca_model.proofs.PlacedItems.{item_number}
 use Rattle.ca_model.proofs.Law.{one_of}
-use Rattle.ca_model.proofs.CountedKnowns.{IsInOrder, HasFewLocals, all_cells}
+use Rattle.ca_model.proofs.CountedKnowns.{function_number, IsInOrder, HasFewLocals, all_cells}
 use Rattle.ca_model.proofs.CountedPrograms.{program_counted}
 
 -- ---- `main`
@@ -85,6 +85,8 @@ last_place (g ∷ fs) f at = omega arith
 
 -- what a typed program counts
 pub record IsCounted (t : Typed) : Type 0 where
+  pub items_ascend : (m : ℕ) × Ascends item_number 1 (all_items t.functions) m
+  pub functions_ascend : (m : ℕ) × Ascends function_number 0 t.functions m
   pub items : (k : ℕ) (i : Item) → slice_get (all_items t.functions) k ≡ Some i → i.id.0 ≡ k + 1
   pub last_item : (f : TypedFunction) → slice_get t.functions (length t.functions - 1) ≡ Some f → f.close.id.0 ≡ length (all_items t.functions)
   pub few_items : length (all_items t.functions) ≤ 65536
@@ -105,6 +107,8 @@ module _ {words : Words} {p : Program} (is : IsProgramOf words p) where
       let length_is = how_many counts.functions in
       let items_are = how_many counts.items in
       record {
+        items_ascend = (suc is.0.items, counts.items);
+        functions_ascend = (is.0.functions, counts.functions);
         items = λ k i at. let here = number_of counts.items k i at in omega arith;
         last_item = λ f at.
             let last = last_closing (known p).functions f (length (known p).functions - 1) at (last_place (known p).functions f at) counts.items in

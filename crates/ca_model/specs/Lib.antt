@@ -23,6 +23,7 @@ pub mod Destroying
 pub mod Paths
 pub mod Hopeless
 pub mod Plans
+pub mod Fitting
 pub mod Activations
 pub mod Matched
 pub mod Schedules

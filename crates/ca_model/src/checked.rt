@@ -52,9 +52,10 @@ impl Checked {
         }
     }
 
-    /// The program as it was read. It takes no memory.
+    /// The program as it was read: one of a text within the limits, whose typing this is. It takes no memory.
     pub fn program(&self) -> &Program
-        ensures { result.now ≡ self.now.program }
+        ensures value { result.now ≡ self.now.program }
+        ensures checked { IsChecked self.now }
     {
         &self.program
     }
@@ -65,6 +66,13 @@ impl Checked {
         ensures { slice_get self.now.typed.functions f.0 ≡ Some result.now }
     {
         &self.functions[f.0 as usize]
+    }
+
+    pub(crate) fn all_functions(&self) -> &[Function]
+        ensures value { result.now ≡ self.now.typed.functions }
+        ensures checked { IsChecked self.now }
+    {
+        self.functions.as_slice()
     }
 
     /// The globals in order, each with its size and the value with which its first cell opens. It takes no memory.

@@ -7,6 +7,7 @@ mod frame_laws;
 mod item_laws;
 mod lists;
 mod plan;
+mod plan_fits;
 mod plan_laws;
 mod run_laws;
 mod runner_laws;
@@ -26,6 +27,7 @@ pub use item_laws::{
 };
 pub use lists::{Events, Exps, FunList, Gives, ItemList, Numbers, SiteList};
 pub use plan::Plan;
+pub use plan_fits::fits;
 pub use plan_laws::{the_empty_plan_is_sound, the_plan_of_a_source_is_sound};
 pub use run_laws::{
     a_run_has_matched_parts, a_write_changes_its_cell_alone, matched_parts_make_a_run,

@@ -114,7 +114,7 @@ function_faults c f =
 -- the function by this declaration too
 abbrev pub declared_too : Bool → Signature → FunctionOf → FunctionOf
 declared_too true g f = record f { definition = Some g }
-declared_too false g f = record f { prototypes = g ∷ f.prototypes }
+declared_too false g f = record f { prototypes = f.prototypes ++ g ∷ [] }
 
 abbrev pub declared_first : Bool → Signature → FunctionOf
 declared_first is_definition g = declared_too is_definition g (record { first = g; definition = None; prototypes = [] })

@@ -1,4 +1,4 @@
-use Rattle.std.proofs.Common.{◌≡◌, Some, length, slice_get, ◌-◌, ap, sym, ◌∙◌, rules}
+use Rattle.std.proofs.Common.{◌≡◌, Some, length, slice_get, ◌-◌, ap, ◌∙◌, rules}
 use Rattle.ca_model.specs.Sites.{all_items}
 use Rattle.ca_model.specs.typing.Sources.{Source}
 use Rattle.ca_model.proofs.TypedCounts.{typing_is_counted}
