@@ -135,10 +135,7 @@ fn is_callable(aim: Option<&Aim>, name: &[u8], count: usize, of: Option<&Signatu
 }
 
 /// The types of the function that a name means, where it means one.
-pub(crate) fn called<'f>(
-    functions: &'f Functions<'_>,
-    means: Option<Meaning>,
-) -> Option<&'f Signature>
+pub fn called<'f>(functions: &'f Functions<'_>, means: Option<Meaning>) -> Option<&'f Signature>
     ensures { (s : scopes.Scope) → shown_called result ≡ calls.signature_of (context s functions.now) means }
 {
     functions.signature(means?)

@@ -84,7 +84,8 @@ fn thread<'a>(scope: &Scope<'a>, name: &'a Name, faults: &mut Faults) -> VarId
     var
 }
 
-fn is_void_pointer(of: Option<ObjectType>) -> bool
+/// Whether a type is `void *`.
+pub fn is_void_pointer(of: Option<ObjectType>) -> bool
     ensures { result ≡ library.is_void_pointer of }
 {
     match of {
@@ -93,7 +94,8 @@ fn is_void_pointer(of: Option<ObjectType>) -> bool
     }
 }
 
-fn only_void_pointer(parameters: &[Option<ObjectType>]) -> bool
+/// Whether the parameters of a function are one `void *`.
+pub fn only_void_pointer(parameters: &[Option<ObjectType>]) -> bool
     ensures { result ≡ library.only_void_pointer parameters.now }
 {
     parameters.len() == 1 && is_void_pointer(parameters[0])
