@@ -1,6 +1,6 @@
 //! The right sides of assignments and declarations: values, calls, and `malloc` (C11 7.22.3.4).
 
-ghost use Rattle.std.specs.Prelude.{◌≡◌, ◌&&◌, IfOk, OnOk, Some};
+ghost use Rattle.std.specs.Prelude.{◌≡◌, ◌≤◌, ◌&&◌, IfOk, OnOk, Some};
 ghost use Rattle.ca_bodies.specs.Functions.{context};
 ghost use Rattle.ca_bodies.specs.Shown.{shown_aim};
 ghost use Rattle.ca_model.specs.declared.types.Wanted.TheVariants.{OfType};
@@ -82,8 +82,10 @@ fn pointer_goes_into(of: Option<ObjectType>, into: Option<ObjectType>) -> bool
     }
 }
 
-fn cells_of(scope: &Scope<'_>, of: Option<ObjectType>) -> u32
-    ensures { result ≡ type_names.cells_of scope.now of }
+/// How many cells an object has, at most 64; one of a refused type has one.
+pub fn cells_of(scope: &Scope<'_>, of: Option<ObjectType>) -> u32
+    ensures is { result ≡ type_names.cells_of scope.now of }
+    ensures most { result ≤ 64 }
 {
     match of {
         Some(of) => scope.cells(of),

@@ -154,13 +154,20 @@ impl<'a> Scope<'a> {
         self.locals.truncate(count);
     }
 
+    /// What a name means outside of functions.
+    pub fn global(&self, name: &'a [u8]) -> Option<Meaning>
+        ensures { result ≡ find name.now self.now.globals }
+    {
+        self.globals.get(&name).copied()
+    }
+
     /// What a name means here.
     pub fn meaning(&self, name: &'a [u8]) -> Option<Meaning>
         ensures { result ≡ meaning self.now name.now }
     {
         match self.local(name) {
             Some(means) => Some(means),
-            None => self.globals.get(&name).copied(),
+            None => self.global(name),
         }
     }
 
@@ -171,9 +178,10 @@ impl<'a> Scope<'a> {
         Some(fields.as_slice())
     }
 
-    /// How many cells an object has.
+    /// How many cells an object has: a struct one for each field, of which it has at most 64.
     pub fn cells(&self, of: ObjectType) -> u32
-        ensures { result ≡ cells (field_count self.now) of }
+        ensures is { result ≡ cells (field_count self.now) of }
+        ensures most { result ≤ 64 }
     {
         match of.kind {
             Kind::Struct(id) if of.stars == 0 => match self.fields(id) {

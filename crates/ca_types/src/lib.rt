@@ -5,9 +5,7 @@ mod globals;
 mod signatures;
 mod structs;
 
-pub use globals::{
-    cells_allowed, constant_is_right, element_count, first_value, global_means, length_of, start_of,
-};
+pub use globals::{Starts, declare_globals};
 pub use signatures::{
     all_named, fits_others, note_parameters, note_result, result_type, signature,
     void_pointers_allowed,
