@@ -45,7 +45,7 @@ pub(crate) fn shown(alloc: Global, exp: &Exp) -> Result<String, AllocError> {
 
 // What the tokens of a text are read as.
 #[tactic(auto, using(ca_grammar::proofs::LexedEnds::ends_once))]
-fn read(alloc: Global, text: &[u8]) -> Result<Result<Operand, ReadNo>, LexNo> {
+pub(crate) fn read(alloc: Global, text: &[u8]) -> Result<Result<Operand, ReadNo>, LexNo> {
     let found = tokens(alloc, text)?;
     Ok(expression(alloc, &found))
 }

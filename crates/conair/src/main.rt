@@ -6,6 +6,8 @@ mod command_tests;
 #[cfg(test)]
 mod expression_tests;
 #[cfg(test)]
+mod expression_types;
+#[cfg(test)]
 mod program_tests;
 #[cfg(test)]
 mod sources;
