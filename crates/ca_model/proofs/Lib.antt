@@ -97,3 +97,5 @@ pub mod FittingItems
 pub mod PassedLists
 pub mod RisingNumbers
 pub mod FittingPlans
+pub mod CrossingTrees
+pub mod CrossingSources

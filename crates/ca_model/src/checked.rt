@@ -4,6 +4,7 @@ ghost use Rattle.std.specs.Prelude.{◌≡◌, ◌<◌, Some, length, slice_get}
 ghost use Rattle.ca_model.specs.Sites.{all_items};
 ghost use Rattle.ca_model.specs.typing.Sources.{source, IsChecked};
 
+use crate::plan::Plan;
 use crate::tree::{Function, GlobalStart};
 use ca_tree::FunId;
 use ca_tree::tree::Program;
@@ -105,4 +106,12 @@ impl Checked {
     {
         self.mutexes
     }
+}
+
+fn crosses<T: Send + Sync>() {}
+
+/// A checked source and a plan may be moved to other threads, and shared with them.
+pub fn checked_sources_and_plans_cross_threads() {
+    crosses::<Checked>();
+    crosses::<Plan>();
 }

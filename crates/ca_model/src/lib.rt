@@ -17,7 +17,7 @@ mod typing_laws;
 mod values;
 
 pub use attempt_laws::{projections_have_no_marks, retries_are_bounded};
-pub use checked::Checked;
+pub use checked::{Checked, checked_sources_and_plans_cross_threads};
 pub use frame_laws::{
     control_follows_links, frames_are_in_progress, items_begin_once, silent_steps_end,
 };
