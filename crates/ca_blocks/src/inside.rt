@@ -66,6 +66,13 @@ impl<'a> Inside<'a> {
         (scope, functions)
     }
 
+    /// What is visible there.
+    pub fn scope(&self) -> &Scope<'a>
+        ensures { result.now ≡ self.now.context.scope }
+    {
+        &self.scope
+    }
+
     /// How many parameters and locals are declared.
     pub fn count(&self) -> u32
         ensures { result ≡ self.now.count }

@@ -3,6 +3,6 @@
 
 mod inside;
 mod locals;
-mod statements;
+pub mod statements;
 
 pub use inside::Inside;

@@ -107,7 +107,7 @@ pub record Keeps (k j : Known) : Type 0 where
   pub defined : j.context.defined ≡ k.context.defined
   pub functions : j.functions ≡ k.functions
 
-name_kept : (s : Scope) (n : List ℕ) (m : Meaning) → ((with_name s n m).structs ≡ s.structs) × ((with_name s n m).locals ≡ s.locals)
+pub name_kept : (s : Scope) (n : List ℕ) (m : Meaning) → ((with_name s n m).structs ≡ s.structs) × ((with_name s n m).locals ≡ s.locals)
 name_kept s n m = by (is_some (find n s.globals))
   where
     by : (b : Bool) → ((if b then s else record s { globals = s.globals ++ (n, m) ∷ [] }).structs ≡ s.structs) × ((if b then s else record s { globals = s.globals ++ (n, m) ∷ [] }).locals ≡ s.locals)

@@ -1,2 +1,4 @@
 pub mod Twice
 pub mod Holding
+pub mod Declaring
+pub mod Begun

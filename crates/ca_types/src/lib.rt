@@ -1,6 +1,7 @@
 //! Declarations outside of functions: globals and functions by their types.
 #![tactic(auto)]
 
+mod functions;
 mod globals;
 mod signatures;
 mod structs;

@@ -35,7 +35,8 @@ pub fn note_result<'a>(scope: &Scope<'a>, of: &'a ResultType, faults: &mut Fault
     }
 }
 
-fn parameter_type<'a>(scope: &Scope<'a>, of: &'a ParameterType) -> Option<ObjectType>
+/// The type of a parameter.
+pub(crate) fn parameter_type<'a>(scope: &Scope<'a>, of: &'a ParameterType) -> Option<ObjectType>
     ensures { result ≡ signatures.of_parameter scope.now of.now }
 {
     match of {
