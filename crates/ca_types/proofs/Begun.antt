@@ -8,7 +8,7 @@ use Rattle.ca_model.specs.declared.types.Meaning.{Meaning}
 use Rattle.ca_model.specs.declared.types.Meaning.TheVariants as means
 use Rattle.ca_model.specs.declared.types.ObjectType.{ObjectType}
 use Rattle.ca_model.specs.declared.types.TypeFault.{TypeFault}
-use Rattle.ca_model.specs.typing.Bodies.{Inside, Told, and_then, in_order}
+use Rattle.ca_model.specs.typing.Bodies.{Inside, in_order}
 use Rattle.ca_model.specs.typing.Functions.{begun, a_parameter, parameters_told, body_told}
 use Rattle.ca_model.specs.typing.Scopes.{Context, Signature, find}
 use Rattle.ca_model.specs.typing.Signatures.{result_type, signature, with_declaration, with_signature}

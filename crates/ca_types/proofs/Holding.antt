@@ -25,7 +25,7 @@ use Rattle.ca_operands.proofs.Noting.{noted_append}
 use Rattle.ca_types.specs.Holds.{Holds}
 
 -- more faults behind those that are known
-more_faults : (k : Known) (f g : Option TypeFault) (xs : List TypeFault) → f ≡ noted None k.faults → g ≡ noted f xs → g ≡ noted None (k.faults ++ xs)
+pub more_faults : (k : Known) (f g : Option TypeFault) (xs : List TypeFault) → f ≡ noted None k.faults → g ≡ noted f xs → g ≡ noted None (k.faults ++ xs)
 more_faults k f g xs before more = more ∙ ap (λ (f : Option TypeFault). noted f xs) before ∙ sym (noted_append None k.faults xs)
 
 pub mutex_holds : (k : Known) (d : MutexDeclarator) (s t : Scope) (st : List GlobalStart) (c m n : ℕ) (f g : Option TypeFault) → Holds k s st c m f → t ≡ with_name s d.name.text (means.Mutex (record { 0 = m })) → n ≡ m + 1
@@ -114,10 +114,10 @@ name_kept s n m = by (is_some (find n s.globals))
     by true = (refl, refl)
     by false = (refl, refl)
 
-mutex_keeps : (k : Known) (d : MutexDeclarator) → Keeps k (with_mutex k d)
+pub mutex_keeps : (k : Known) (d : MutexDeclarator) → Keeps k (with_mutex k d)
 mutex_keeps k d = let e = name_kept k.context.scope d.name.text (means.Mutex (record { 0 = k.mutexes })) in record { structs = e.0; locals = e.1; declared = refl; defined = refl; functions = refl }
 
-global_keeps : (k : Known) (n : Name) (t : Option ObjectType) (len : Option ℤ) (v : Value) (fs : List TypeFault) → Keeps k (with_global k n t len v fs)
+pub global_keeps : (k : Known) (n : Name) (t : Option ObjectType) (len : Option ℤ) (v : Value) (fs : List TypeFault) → Keeps k (with_global k n t len v fs)
 global_keeps k n t len v fs = let e = name_kept k.context.scope n.text (global_means (record { 0 = length k.starts }) len t) in record { structs = e.0; locals = e.1; declared = refl; defined = refl; functions = refl }
 
 keeps_through : (i j k : Known) → Keeps i j → Keeps j k → Keeps i k

@@ -1,14 +1,13 @@
-//! Declarations outside of functions: globals and functions by their types.
+//! The types of a program: its typed tree, or its first fault.
 #![tactic(auto)]
 
+mod check;
+mod definitions;
 mod functions;
 mod globals;
 mod signatures;
 mod structs;
+mod tops;
 
-pub use globals::{Starts, declare_globals};
-pub use signatures::{
-    all_named, fits_others, note_parameters, note_result, result_type, signature,
-    void_pointers_allowed,
-};
-pub use structs::struct_definition;
+pub use ca_model::{TypeFault, TypeKind};
+pub use check::{TypeNo, check_types};
