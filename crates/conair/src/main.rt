@@ -11,6 +11,8 @@ mod expression_types;
 mod program_tests;
 #[cfg(test)]
 mod sources;
+#[cfg(test)]
+mod types_tests;
 
 use ca_cmd::{command_alone, out_of_memory};
 use ca_io::{HostFiles, HostSink};
