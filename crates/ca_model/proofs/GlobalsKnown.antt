@@ -37,7 +37,7 @@ use Rattle.ca_model.proofs.KnownSoFar.{found_left, new_or_old, Grows, Declared, 
 
 -- ---- structs
 
-tag_globals : (b : Bool) (s : Scope) (xs : List StructOf) → (if b then s else with_structs s xs).globals ≡ s.globals
+pub tag_globals : (b : Bool) (s : Scope) (xs : List StructOf) → (if b then s else with_structs s xs).globals ≡ s.globals
 tag_globals true s xs = refl
 tag_globals false s xs = refl
 
@@ -165,16 +165,16 @@ module _ (defined : List (List ℕ)) where
         sound = λ h. record { names = λ x w at. declared_on k (with_faults k fs) x w grows (h.names x w at); functions = h.functions; fields = h.fields; starts = h.starts; all = h.all };
       }
 
-mutex_keeps : KeepsFaults with_mutex
+pub mutex_keeps : KeepsFaults with_mutex
 mutex_keeps k d none = (none_in k.faults (name_faults k.context.scope d.name) none).0
 
 global_keeps : (k : Known) (n : Name) (u : Option ObjectType) (len : Option ℤ) (v : Value) (fs : List TypeFault) → (with_global k n u len v fs).faults ≡ [] → k.faults ≡ []
 global_keeps k n u len v fs none = (none_in k.faults _ none).0
 
-thread_keeps : KeepsFaults with_thread
+pub thread_keeps : KeepsFaults with_thread
 thread_keeps k d none = global_keeps k d.name (Some thread) d.length zero_value [] none
 
-variable_keeps : (b : Base) → KeepsFaults (with_variable b)
+pub variable_keeps : (b : Base) → KeepsFaults (with_variable b)
 variable_keeps b k d none = global_keeps k d.name (written_type k.context.scope b d.stars) (length_of d.form) (first_value d.form) _ none
 
 pub globals_keep : KeepsFaults with_globals
@@ -183,7 +183,7 @@ globals_keep k (globals.Threads ds) none = each_keeps_faults with_thread thread_
 globals_keep k (globals.Variables b ds) none =
     each_keeps_faults (with_variable b) (variable_keeps b) ds k (none_in (with_each (with_variable b) k ds).faults (type_faults k.context.scope b) none).0
 
-any : {A : Type 0} (xs : List A) → AllByRecursion (λ x. Unit {0}) xs
+pub any : {A : Type 0} (xs : List A) → AllByRecursion (λ x. Unit {0}) xs
 any [] = tt
 any (x ∷ xs) = (tt, any xs)
 

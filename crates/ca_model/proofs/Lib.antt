@@ -86,6 +86,9 @@ pub mod SignaturesKnown
 pub mod DeclarationsKnown
 pub mod DefinitionsFound
 pub mod NamesKnown
+pub mod PrintedExpressions
+pub mod PrintedStatements
+pub mod PrintedPrograms
 pub mod NumberedLists
 pub mod PlacedItems
 pub mod ToldItems

@@ -31,6 +31,7 @@ pub mod Runner
 pub mod WellFormed
 pub mod KnownGlobals
 pub mod Bounds
+pub mod Printable
 pub mod Waits
 pub mod Begun
 pub mod Follows

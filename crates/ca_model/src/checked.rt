@@ -1,8 +1,11 @@
 //! A source whose types were found right.
 
+ghost use denote.Param.Send.{IsSend, IsSync};
 ghost use Rattle.std.specs.Prelude.{◌≡◌, ◌<◌, Some, length, slice_get};
 ghost use Rattle.ca_model.specs.Sites.{all_items};
 ghost use Rattle.ca_model.specs.typing.Sources.{source, IsChecked};
+ghost use Rattle.ca_model.specs.contracts.checked.Checked as checked_source;
+ghost use Rattle.ca_model.specs.contracts.plan.Plan as a_plan;
 
 use crate::plan::Plan;
 use crate::tree::{Function, GlobalStart};
@@ -108,10 +111,10 @@ impl Checked {
     }
 }
 
-fn crosses<T: Send + Sync>() {}
-
 /// A checked source and a plan may be moved to other threads, and shared with them.
-pub fn checked_sources_and_plans_cross_threads() {
-    crosses::<Checked>();
-    crosses::<Plan>();
-}
+pub fn checked_sources_and_plans_cross_threads()
+    ensures checked_moves { IsSend checked_source.the_row }
+    ensures checked_is_shared { IsSync checked_source.the_row }
+    ensures plan_moves { IsSend a_plan.the_row }
+    ensures plan_is_shared { IsSync a_plan.the_row }
+{}

@@ -1,12 +1,13 @@
 //! Laws of typing.
 
-ghost use Rattle.std.specs.Prelude.{◌≡◌, ◌⊎◌};
+ghost use Rattle.std.specs.Prelude.{◌≡◌, ◌⊎◌, true};
 ghost use Rattle.ca_tree.specs.declared.tree.Program.{Program};
 ghost use Rattle.ca_tree.specs.ProgramTrees.{IsWrittenProgram};
 ghost use Rattle.ca_model.specs.Codes.{Typed};
 ghost use Rattle.ca_model.specs.WellFormed.{IsWellFormed};
 ghost use Rattle.ca_model.specs.KnownGlobals.{KnowsItsGlobals};
 ghost use Rattle.ca_model.specs.Bounds.{IsBounded};
+ghost use Rattle.ca_model.specs.Printable.{is_printable};
 ghost use Rattle.ca_model.specs.declared.types.TypeFault.{TypeFault};
 ghost use Rattle.ca_model.specs.typing.Typing.{IsTyping, IsFault};
 
@@ -24,4 +25,10 @@ pub fn typed_programs_are_well_formed()
     ensures well_formed { (p : Program) (t : Typed) → IsWrittenProgram p → IsTyping p t → IsWellFormed t }
     ensures globals { (p : Program) (t : Typed) → IsWrittenProgram p → IsTyping p t → KnowsItsGlobals t }
     ensures bounded { (p : Program) (t : Typed) → IsWrittenProgram p → IsTyping p t → IsBounded t }
+{}
+
+/// No text of a typed program is cut short or read otherwise for its forms: no field stands behind a number, no operand has the
+/// name of a call of the library, and no target is an operation of two operands.
+pub fn typed_programs_are_printable()
+    ensures { (p : Program) (t : Typed) → IsTyping p t → is_printable p ≡ true }
 {}

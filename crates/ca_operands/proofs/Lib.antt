@@ -1,4 +1,3 @@
-mod Equations
 pub mod Lookups
 pub mod Noting
 pub mod Firsts

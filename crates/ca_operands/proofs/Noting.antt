@@ -21,7 +21,7 @@ use Rattle.ca_model.specs.typing.Uses.{value_is_wanted, faults_in}
 use Rattle.ca_model.specs.typing.Scopes.{Scope, field_count}
 use Rattle.ca_model.specs.typing.Expressions.{Judged, judged, no_place, both, unary_faults, not_chosen}
 use Rattle.ca_model.specs.typing.Faults.{given}
-use Rattle.ca_operands.proofs.Equations.{placed, judged_unary, judged_binary, judged_index, judged_field, judged_arrow}
+use Rattle.ca_model.proofs.JudgedExpressions.{placed, judged_unary, judged_binary, judged_index, judged_field, judged_arrow}
 use Rattle.ca_operands.specs.Noted.{noted, sooner}
 
 pub noted_append : (f : Option TypeFault) (xs ys : List TypeFault) → noted f (xs ++ ys) ≡ noted (noted f xs) ys

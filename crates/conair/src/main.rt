@@ -12,6 +12,8 @@ mod program_tests;
 #[cfg(test)]
 mod sources;
 #[cfg(test)]
+mod typed_trees;
+#[cfg(test)]
 mod types_tests;
 
 use ca_cmd::{command_alone, out_of_memory};

@@ -4,7 +4,7 @@ use Rattle.ca_model.specs.declared.types.TypeKind.TheVariants as wrong
 use Rattle.ca_model.specs.typing.Expressions.{judged}
 use Rattle.ca_model.specs.typing.Faults.{fault, unless}
 use Rattle.ca_operands.specs.Noted.{noted}
-use Rattle.ca_operands.proofs.Equations.{placed}
+use Rattle.ca_model.proofs.JudgedExpressions.{placed}
 use Rattle.ca_operands.proofs.expressions.unless_place.Goals as goal
 
 pub returns : goal.returns
