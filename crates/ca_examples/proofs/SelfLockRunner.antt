@@ -14,10 +14,11 @@ use Rattle.ca_model.specs.Opening.{CanStep, opening_shared}
 use Rattle.ca_model.specs.Waits.{WaitsAt}
 use Rattle.ca_model.specs.Schedules.{by_list}
 use Rattle.ca_model.specs.Runner.{IsChosen, IsTimeout, since_last, IsLeastUnused, Comes, Moves, TimesOut, IsReady, IsEnabled, AreEnabled, RunsOn, stuck, goes_on, IsRunOf}
+use Rattle.ca_model.specs.ComingEntries.{EndedBelow, gives_at, lock_entry, retrying, the_entry, entry_of}
 use Rattle.ca_model.proofs.Law.{one_of}
 use Rattle.ca_model.proofs.Members.{in_none, in_one}
-use Rattle.ca_model.proofs.Entries.{EndedBelow, least_from, gives_at, lock_entry, retrying, the_entry}
-use Rattle.ca_model.proofs.OneEntry.{entry_of, comes_as}
+use Rattle.ca_model.proofs.Entries.{least_from}
+use Rattle.ca_model.proofs.OneEntry.{comes_as}
 use Rattle.ca_model.proofs.EnabledThreads.{no_step}
 use Rattle.ca_model.proofs.RunnerStates.{opening_reached}
 use Rattle.ca_examples.specs.SelfLock.{program, plan, m, second, second_lock, list, code, WaitsForItself}

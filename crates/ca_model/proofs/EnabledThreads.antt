@@ -21,11 +21,11 @@ use Rattle.ca_model.specs.Machine.{by, State, Step, threads_after}
 use Rattle.ca_model.specs.Hardened.{Hardened, hardened, retry_site, taking, HardenedDue}
 use Rattle.ca_model.specs.Opening.{CanStep}
 use Rattle.ca_model.specs.Runner.{IsLeastUnused, IsTimeout, since_last, Comes, Moves, TimesOut, IsReady, IsEnabled, AreEnabled}
+use Rattle.ca_model.specs.ComingEntries.{EndedBelow, gives_at, the_entry, entry_of}
 use Rattle.ca_model.proofs.Law.{one_of}
 use Rattle.ca_model.proofs.Members.{in_none, in_cons, at_head, at_tail}
-use Rattle.ca_model.proofs.Entries.{EndedBelow, gives_at, the_entry}
 use Rattle.ca_model.proofs.Creates.{frames_some}
-use Rattle.ca_model.proofs.OneEntry.{DueAt, answer_some, entry_of, comes_as, one_event}
+use Rattle.ca_model.proofs.OneEntry.{DueAt, answer_some, comes_as, one_event}
 use Rattle.ca_model.proofs.MayCome.{Possible, decide}
 
 -- a fact that is known to hold or not to hold

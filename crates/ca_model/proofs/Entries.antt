@@ -1,6 +1,6 @@
 -- By what a thread wants, at most one entry is possible.
-use Rattle.std.proofs.Common.{◌≡◌, ℕ, zero, suc, ◌+◌, ◌^◌, ◌<◌, ◌≤◌, Bool, true, false, cond, List, [], Option, Some, None, refl, sym, ap, ◌∙◌, arith, inl, inr}
-use Rattle.std.specs.Prelude.{◌&&◌, ◌⊎◌, ◌==◌, ℤ, pos, negsuc, ◌+ℤ◌, is_some, IsSome, nat_lt, nat_le}
+use Rattle.std.proofs.Common.{◌≡◌, ℕ, zero, suc, ◌+◌, ◌^◌, ◌<◌, ◌≤◌, Bool, true, false, cond, List, Option, Some, None, refl, sym, ap, ◌∙◌, arith, inl, inr}
+use Rattle.std.specs.Prelude.{◌&&◌, ◌⊎◌, ◌==◌, ℤ, pos, negsuc, ◌+ℤ◌, is_some, IsSome, nat_lt}
 use Rattle.std.specs.Ordering.{int_eq}
 use Rattle.std.specs.Str.{bytes_eq}
 use Rattle.std.specs.FinMap as map
@@ -9,7 +9,6 @@ use Rattle.std.proofs.lemmas.Bool.{and_parts, and_from, eqb-true, eq-eqb, lt-ltb
 use Rattle.std.proofs.lemmas.Bool.Decides.{Decides-int_eq}
 use Rattle.std.proofs.lemmas.Slice.Eq.{bytes_eq-Decides}
 use Rattle.ca_tree.specs.declared.numbers.SiteId.{SiteId}
-use Rattle.ca_tree.specs.declared.numbers.MutexId.{MutexId}
 use Rattle.ca_model.specs.declared.values.Addr.{Addr}
 use Rattle.ca_model.specs.declared.values.Value.{Value}
 use Rattle.ca_model.specs.declared.values.Value.TheVariants as v
@@ -20,12 +19,13 @@ use Rattle.ca_model.specs.declared.values.EventAct.{EventAct}
 use Rattle.ca_model.specs.declared.values.EventAct.TheVariants as act
 use Rattle.ca_model.specs.declared.tree.LoadKind.{LoadKind}
 use Rattle.ca_model.specs.Arith.{null, same, suits}
-use Rattle.ca_model.specs.Asks.{Want, Reads, Writes, Locks, Unlocks, Mallocs, Frees, Prints, Creates, Joins, Calls, Returns, Turns, Ends, Fails, Faults, Saves, Ended}
+use Rattle.ca_model.specs.Asks.{Want, Reads, Writes, Locks, Unlocks, Mallocs, Frees, Prints, Creates, Joins, Calls, Returns, Turns, Ends, Fails, Faults, Saves}
 use Rattle.ca_model.specs.Private.{is_at, when, answer, may_fault}
 use Rattle.ca_model.specs.Shared.{Shared, Blocks, cell, reached, live_cells, CanFree, Allows, IsUnfit, FaultIsDue}
-use Rattle.ca_model.specs.Hardened.{Saved, is_failing}
+use Rattle.ca_model.specs.Hardened.{is_failing}
 use Rattle.ca_model.specs.Runner.{HasRoom, IsLeastUnused, IsGiven, IsChosen}
-use Rattle.ca_model.proofs.Retries.{is_owner, owner_is, is_owner_so, is_heap, heap_is, gives_of}
+use Rattle.ca_model.specs.ComingEntries.{EndedBelow, aimed, block_at, can_free, create_entry, failing, given_value, is_heap, is_owner, join_entry, lock_entry, read_entry, retrying, room, the_entry, write_entry}
+use Rattle.ca_model.proofs.Retries.{owner_is, is_owner_so, heap_is}
 
 -- the numbers of blocks that were used are those below k
 abbrev pub Used : ℕ → Blocks → Type 0
@@ -48,87 +48,6 @@ one_least m k b (none, below) (none', below') =
     no_some : {A : Type 0} (o : Option A) → o ≡ None → IsSome o → ⊥
     no_some None e h = absurd cc
     no_some (Some x) e h = absurd cc
-
--- the threads that have ended were made by a create
-abbrev pub EndedBelow : Shared → Type 0
-EndedBelow g = (u : ℕ) → set.contains g.ended u ≡ true → (0 < u) × (u < g.threads)
-
--- a retry where there is a site for it, and else a fault
-abbrev pub failing : Option SiteId → FaultKind → List Given → EventAct
-failing None f gives = act.Fault f
-failing (Some s) f gives = act.Retry s gives
-
-abbrev pub retrying : Option SiteId → List Given → Option EventAct
-retrying None gives = None
-retrying (Some s) gives = Some (act.Retry s gives)
-
-abbrev pub gives_at : Shared → ℕ → Option Saved → List Given
-gives_at s t None = []
-gives_at s t (Some sv) = gives_of s t sv
-
--- the address of an access
-abbrev pub aimed : Value → ℤ → Addr
-aimed (v.Num n) by = record { block = 0; offset = by }
-aimed (v.Addr a) by = record { block = a.block; offset = a.offset +ℤ by }
-
-abbrev pub room : Blocks → ℤ → Bool
-room m (pos zero) = false
-room m (pos (suc n)) = nat_le (live_cells m + suc n) (2 ^ 20)
-room m (negsuc n) = false
-
-abbrev pub block_at : ℕ → Value
-block_at k = v.Addr (record { block = k; offset = pos 0 })
-
-abbrev pub given_value : Blocks → ℕ → ℤ → Value
-given_value m k cells = cond (room m cells) (block_at k) null
-
-abbrev pub can_free : Blocks → Value → Bool
-can_free m (v.Num n) = int_eq n (pos 0)
-can_free m (v.Addr a) = int_eq a.offset (pos 0) && is_heap (map.get m a.block)
-
-abbrev pub read_entry : Addr → LoadKind → Option Value → EventAct → EventAct
-read_entry a kd None missing = missing
-read_entry a kd (Some x) missing = cond (suits kd x) (act.Read a x) (act.Fault fault.Kind)
-
-abbrev pub write_entry : Addr → Value → Option Value → EventAct → EventAct
-write_entry a x None missing = missing
-write_entry a x (Some y) missing = act.Write a x
-
-abbrev pub lock_entry : MutexId → Bool → Option ℕ → Option EventAct → Option EventAct
-lock_entry m there None r = cond there (Some (act.Lock m)) None
-lock_entry m there (Some u) r = r
-
-abbrev pub create_entry : ℕ → Option EventAct
-create_entry n = cond (nat_lt n 64) (Some (act.Create n)) (cond (n == 64) (Some (act.Fault fault.Thread)) None)
-
-abbrev pub join_entry : Shared → ℤ → Option EventAct
-join_entry g (pos zero) = Some (act.Fault fault.Thread)
-join_entry g (pos (suc u)) = cond (nat_lt (suc u) g.threads) (cond (set.contains g.ended (suc u)) (Some (act.Join (suc u))) None) (Some (act.Fault fault.Thread))
-join_entry g (negsuc n) = Some (act.Fault fault.Thread)
-
-abbrev pub fault_entry : FaultKind → Option EventAct
-fault_entry fault.Arith = Some (act.Fault fault.Arith)
-fault_entry _ = None
-
--- the entry that comes, if one does: k is the least number of a block that was never used, r the site for a retry
-abbrev pub the_entry : Shared → ℕ → ℕ → Option SiteId → List Given → Want → Option EventAct
-the_entry g t k r gives (Reads at by kd s) = Some (read_entry (aimed at by) kd (reached g.blocks at by) (failing r fault.Pointer gives))
-the_entry g t k r gives (Writes at by x s) = Some (write_entry (aimed at by) x (reached g.blocks at by) (failing r fault.Pointer gives))
-the_entry g t k r gives (Locks m s i) = lock_entry m (nat_lt m.0 g.mutexes) (map.get g.owners m.0) (retrying r gives)
-the_entry g t k r gives (Unlocks m) = Some (cond (is_owner t (map.get g.owners m.0)) (act.Unlock m) (act.Fault fault.Mutex))
-the_entry g t k r gives (Mallocs cells i) = Some (act.Malloc cells (given_value g.blocks k cells))
-the_entry g t k r gives (Frees x s) = Some (cond (can_free g.blocks x) (act.Free x) (failing r fault.Pointer gives))
-the_entry g t k r gives (Prints text) = Some (act.Print text)
-the_entry g t k r gives (Creates f x) = create_entry g.threads
-the_entry g t k r gives (Joins n) = join_entry g n
-the_entry g t k r gives (Calls f xs) = Some (act.Call f)
-the_entry g t k r gives (Returns x) = Some (act.Return x)
-the_entry g t k r gives Turns = Some act.Turn
-the_entry g t k r gives Ends = Some act.End
-the_entry g t k r gives (Fails s) = Some (failing r fault.Assert gives)
-the_entry g t k r gives (Faults f) = fault_entry f
-the_entry g t k r gives Saves = Some act.Save
-the_entry g t k r gives Ended = None
 
 pub same_is : (x y : Value) → same x y ≡ true → x ≡ y
 same_is (v.Num m) (v.Num n) e = ap v.Num ((Decides-int_eq m n).0 e)

@@ -50,6 +50,7 @@ pub mod Moves
 pub mod SourceMoves
 pub mod FramesOfRuns
 pub mod PlacedRuns
+pub mod FrameCounts
 pub mod Waiting
 pub mod Retries
 pub mod Entries

@@ -24,8 +24,9 @@ use Rattle.ca_model.specs.Private.{Thread, is_at, when, answer, may_fault, going
 use Rattle.ca_model.specs.Shared.{Shared, Blocks, cell, reached, CanFree, Allows, IsUnfit, FaultIsDue}
 use Rattle.ca_model.specs.Hardened.{Hardened, Saved, fresh, site_of, may_retry, took, taking, with_frames, retried, back, is_failing, hardened_by, FailsNow, NamesHeld}
 use Rattle.ca_model.specs.Runner.{HasRoom, IsChosen, IsLeastUnused}
-use Rattle.ca_model.proofs.Retries.{is_owner, owner_is, is_owner_so, gives_of, gives_part, gives_held, gives_named}
-use Rattle.ca_model.proofs.Entries.{int_self, same_self, retrying, gives_at, aimed, room, room_is, room_so, block_at, can_free, can_free_is, can_free_so, lock_entry, create_entry, the_entry}
+use Rattle.ca_model.specs.ComingEntries.{is_owner, gives_of, retrying, gives_at, aimed, room, block_at, can_free, lock_entry, create_entry, the_entry}
+use Rattle.ca_model.proofs.Retries.{owner_is, is_owner_so, gives_part, gives_held, gives_named}
+use Rattle.ca_model.proofs.Entries.{int_self, same_self, room_is, room_so, can_free_is, can_free_so}
 use Rattle.ca_model.proofs.OneEntry.{DueAt}
 
 -- an access that reaches a cell reaches it at its address

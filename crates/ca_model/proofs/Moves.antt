@@ -17,12 +17,13 @@ use Rattle.ca_model.specs.Private.{Thread, Stand, stand, answer, may_fault, afte
 use Rattle.ca_model.specs.Shared.{Shared, Allows, IsLegal, FaultIsDue, IsDue}
 use Rattle.ca_model.specs.Hardened.{Hardened, Saved, hardened, hardened_advance, HardenedDue, retry_site, may_retry, site_of, with_frames, took, taking, back, retried, is_failing, is_part, latest_first, FailsNow, NamesHeld, if_saves}
 use Rattle.ca_model.specs.Waits.{WaitsAt, HardenedWaits}
+use Rattle.ca_model.specs.ComingEntries.{gives_of}
 use Rattle.ca_model.proofs.Offers.{Offer}
 use Rattle.ca_model.proofs.FramesInPlace.{entry_is}
 use Rattle.ca_model.proofs.HardenedInPlace.{again, moved, Moved, Saving, Going_back, Stepping}
 use Rattle.ca_model.proofs.Choices.{IsRunning, Choice, Answers, Fails_by, Must_wait, legal, count_of}
 use Rattle.ca_model.proofs.Entries.{when_is}
-use Rattle.ca_model.proofs.Retries.{gives_of, gives_part, gives_held, gives_named}
+use Rattle.ca_model.proofs.Retries.{gives_part, gives_held, gives_named}
 
 -- neither a fault nor a retry answers a want
 pub no_fault_answers : (w : Want) (k : FaultKind) (x : Value) → answer w (act.Fault k) ≡ Some x → ⊥

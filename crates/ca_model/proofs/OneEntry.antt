@@ -13,12 +13,13 @@ use Rattle.ca_model.specs.Frames.{Code}
 use Rattle.ca_model.specs.Private.{Thread, Stand, stand, answer, may_fault, going_on, after_entry}
 use Rattle.ca_model.specs.Shared.{Shared, Allows, IsDue}
 use Rattle.ca_model.specs.Machine.{State}
-use Rattle.ca_model.specs.Hardened.{Hardened, Saved, site_of, may_retry, retry_site, latest_first, is_part, with_frames, if_saves, retried, back, is_failing, hardened_by, FailsNow, NamesHeld, HardenedDue}
+use Rattle.ca_model.specs.Hardened.{Hardened, Saved, site_of, may_retry, latest_first, is_part, with_frames, if_saves, retried, back, is_failing, hardened_by, FailsNow, NamesHeld, HardenedDue}
 use Rattle.ca_model.specs.Runner.{IsChosen, Comes, IsLeastUnused}
+use Rattle.ca_model.specs.ComingEntries.{EndedBelow, aimed, can_free, entry_of, failing, gives_at, gives_of, lock_entry, read_entry, retrying, the_entry, write_entry}
 use Rattle.ca_model.proofs.Law.{one_of}
-use Rattle.ca_model.proofs.Retries.{gives_of, gives_part, gives_held, gives_named, one_list}
+use Rattle.ca_model.proofs.Retries.{gives_part, gives_held, gives_named, one_list}
 use Rattle.ca_model.proofs.Creates.{frames_some}
-use Rattle.ca_model.proofs.Entries.{EndedBelow, failing, retrying, gives_at, aimed, read_entry, write_entry, lock_entry, can_free, can_free_is, the_entry, plain_is, fault_is}
+use Rattle.ca_model.proofs.Entries.{can_free_is, plain_is, fault_is}
 
 -- whether the shared state gives an entry for a want
 abbrev pub DueAt : Shared → ℕ → Want → Option Saved → EventAct → Type 0
@@ -98,10 +99,6 @@ module _ (code : Code) (g : Shared) (t k : ℕ) where
         let two = frames_some (going_on (record { want = w; go = go }) (answer w a)) _ h.saved x own in
         let three = answer_some (record { want = w; go = go }) (answer w a) two.0 two.1 in
         plain_is g t k used ended (may_retry code (site_of w) h.saved) (gives_at g t h.saved) w a three.0 three.1 ok is
-
--- the entry that comes for a thread
-abbrev pub entry_of : Code → Shared → ℕ → ℕ → Hardened → Option EventAct
-entry_of code g t k h = the_entry g t k (retry_site code h) (gives_at g t h.saved) (stand code h.frames).want
 
 module _ (code : Code) (events patience : ℕ) (s : State Hardened) (t k : ℕ) (used : IsLeastUnused s.shared.blocks k) (ended : EndedBelow s.shared) where
   pub comes_as : (a : EventAct) (new : State Hardened) (c : Comes code events patience s t a new) → entry_of code s.shared t k c.step.before ≡ Some a

@@ -1,6 +1,6 @@
 -- What a retry gives back.
 use Rattle.std.proofs.Common.{rules, ◌≡◌, ◌≢◌, ℕ, Bool, true, false, cond, not, List, [], ◌∷◌, Option, Some, None, refl, sym, ap, ◌∙◌, subst, arith, inl, inr}
-use Rattle.std.specs.Prelude.{◌⊎◌, ◌&&◌, ◌==◌, Contains, reverse, filter}
+use Rattle.std.specs.Prelude.{◌⊎◌, ◌&&◌, Contains, reverse, filter}
 use Rattle.std.specs.List.{AllPairs}
 use Rattle.std.specs.FinMap as map
 use Rattle.std.specs.FinMap.{gets}
@@ -16,6 +16,7 @@ use Rattle.ca_model.specs.declared.values.Given.{Given}
 use Rattle.ca_model.specs.declared.values.Given.TheVariants as given
 use Rattle.ca_model.specs.Shared.{Shared, Block, Blocks, died, insert_if, Holds, HoldsEach, give}
 use Rattle.ca_model.specs.Hardened.{Saved, same_given, once, latest_first, is_part, NamesHeld}
+use Rattle.ca_model.specs.ComingEntries.{gives_of, is_heap, is_held, is_owner}
 use Rattle.ca_model.proofs.Cells.{get_here, get_there}
 use Rattle.ca_model.proofs.Members.{in_none, in_cons, at_head, at_tail}
 use Rattle.ca_model.proofs.SameLists.{head_pairs, tail_pairs, HasAll}
@@ -190,19 +191,6 @@ one_list s t sv gs hs p q h k n m = same_parts (latest_first sv.taken) gs hs (on
     (λ x c. All-contains (λ g. Holds s t g → Contains hs g) sv.taken x m (latest_in sv.taken x (part_in (latest_first sv.taken) gs p x c)) (given_held gs s t x h c))
     (λ x c. All-contains (λ g. Holds s t g → Contains gs g) sv.taken x n (latest_in sv.taken x (part_in (latest_first sv.taken) hs q x c)) (given_held hs s t x k c))
 
--- whether a thing is held
-abbrev pub is_owner : ℕ → Option ℕ → Bool
-is_owner t None = false
-is_owner t (Some u) = u == t
-
-abbrev pub is_heap : Option Block → Bool
-is_heap None = false
-is_heap (Some b) = b.heap && b.live
-
-abbrev pub is_held : Shared → ℕ → Given → Bool
-is_held s t (given.Mutex m) = is_owner t (map.get s.owners m.0)
-is_held s t (given.Block b) = is_heap (map.get s.blocks b)
-
 pub owner_is : (o : Option ℕ) (t : ℕ) → is_owner t o ≡ true → o ≡ Some t
 owner_is None t e = absurd cc
 owner_is (Some u) t e = ap Some (eqb-true u t e)
@@ -221,10 +209,6 @@ held_is s t (given.Block b) e = let h = heap_is (map.get s.blocks b) e in (b, h.
 is_held_so : (s : Shared) (t : ℕ) (g : Given) → Holds s t g → is_held s t g ≡ true
 is_held_so s t (given.Mutex m) h = is_owner_so (map.get s.owners m.0) t h
 is_held_so s t (given.Block b) (k, c, is, h) = ap is_heap (ap (map.get s.blocks) (ap block_number is) ∙ h)
-
--- what a retry gives back
-abbrev pub gives_of : Shared → ℕ → Saved → List Given
-gives_of s t sv = filter (is_held s t) (latest_first sv.taken)
 
 part_rest : (g : Given) (gs hs : List Given) → is_part gs hs ≡ true → is_part gs (g ∷ hs) ≡ true
 part_rest g [] hs e = refl

@@ -20,8 +20,9 @@ use Rattle.ca_model.specs.Shared.{Block, Blocks, Shared, Phase, Open, put_cell, 
 use Rattle.ca_model.specs.Opening.{globals_from, opening_shared}
 use Rattle.ca_model.specs.Codes.{Typed}
 use Rattle.ca_model.specs.Runner.{IsChosen}
+use Rattle.ca_model.specs.ComingEntries.{EndedBelow, block_at}
 use Rattle.ca_model.proofs.Cells.{get_here, get_there}
-use Rattle.ca_model.proofs.Entries.{Used, EndedBelow, block_at, least_is}
+use Rattle.ca_model.proofs.Entries.{Used, least_is}
 
 -- as many entries as n were made since no block was there
 pub record Reached (s : Shared) (n : ℕ) : Type 0 where

@@ -28,6 +28,8 @@ pub mod Activations
 pub mod Matched
 pub mod Schedules
 pub mod Runner
+pub mod ComingEntries
+pub mod FrameCounts
 pub mod WellFormed
 pub mod KnownGlobals
 pub mod Bounds

@@ -30,9 +30,9 @@ pub use plan::Plan;
 pub use plan_fits::fits;
 pub use plan_laws::{the_empty_plan_is_sound, the_plan_of_a_source_is_sound};
 pub use run_laws::{
-    a_run_has_matched_parts, a_write_changes_its_cell_alone, matched_parts_make_a_run,
-    none_waits_in_vain, nothing_is_taken_back, parts_make_a_run, runs_come_apart, steps_are_fixed,
-    without_a_plan_it_is_the_source,
+    a_run_has_matched_parts, a_write_changes_its_cell_alone, entries_tell_the_frames,
+    matched_parts_make_a_run, none_waits_in_vain, nothing_is_taken_back, parts_make_a_run,
+    runs_come_apart, steps_are_fixed, without_a_plan_it_is_the_source,
 };
 pub use runner_laws::{the_runner_gives_a_run, the_runner_is_a_function};
 pub use tree::{

@@ -5,6 +5,7 @@ ghost use Rattle.ca_model.specs.declared.plan.Plan.{Plan};
 ghost use Rattle.ca_model.specs.declared.values.Addr.{Addr};
 ghost use Rattle.ca_model.specs.declared.values.Value.{Value};
 ghost use Rattle.ca_model.specs.Codes.{Typed, code_of};
+ghost use Rattle.ca_model.specs.FrameCounts.{FramesAreTold};
 ghost use Rattle.ca_model.specs.Frames.{Code};
 ghost use Rattle.ca_model.specs.Hardened.{hardened};
 ghost use Rattle.ca_model.specs.Kept.{RunsKeep};
@@ -62,6 +63,12 @@ pub fn none_waits_in_vain()
 pub fn nothing_is_taken_back()
     ensures of_source { (code : Code) → RunsKeep (source code) }
     ensures of_hardened { (code : Code) → RunsKeep (hardened code) }
+{}
+
+/// The entries of a run from the opening tell how many frames each thread has, and how many all threads have together.
+pub fn entries_tell_the_frames()
+    ensures of_source { (p : Typed) (code : Code) → FramesAreTold (source code) (λ t. t) p }
+    ensures of_hardened { (p : Typed) (code : Code) → FramesAreTold (hardened code) (λ h. h.frames) p }
 {}
 
 /// A write is read back, and changes that cell alone.
