@@ -211,6 +211,27 @@ pub depth_other : (t : ℕ) (es : List Event) (e : Event) → nat_eq e.thread t 
 depth_other t es e is =
     ap (depth_after first_depth) (own_join t es (e ∷ []) ∙ ap (λ b. own_of t es ++ cond b (e.act ∷ []) []) is) ∙ depth_join (own_of t es) [] first_depth
 
+-- all of them together
+pub together : {A : Type 0} (f : A → ℕ) (es : List Event) (xs : List A) (k : ℕ) → ((t : ℕ) (x : A) → slice_get xs t ≡ Some x → f x ≡ (depth_of (k + t) es).now)
+    → frames_below es k + sum_by f xs ≡ frames_below es (k + length xs)
+together f es [] k each = omega (arith, ap (frames_below es) (add_none k))
+  where
+    add_none : (k : ℕ) → k + 0 ≡ k
+    add_none k = omega arith
+together f es (x ∷ xs) k each =
+    let here : f x ≡ (depth_of k es).now = each 0 x refl ∙ ap (λ n. (depth_of n es).now) (add_none k) in
+    let rest : frames_below es (suc k) + sum_by f xs ≡ frames_below es (suc k + length xs) = together f es xs (suc k) (λ t y h. each (suc t) y h ∙ ap (λ n. (depth_of n es).now) (shifted k t)) in
+    let place : frames_below es (suc k + length xs) ≡ frames_below es (k + suc (length xs)) = ap (frames_below es) (sym (shifted k (length xs))) in
+    let more : sum_by f (x ∷ xs) ≡ f x + sum_by f xs = sum_by-cons f x xs in
+    let next : frames_below es (suc k) ≡ frames_below es k + (depth_of k es).now = refl in
+    omega (arith, here, rest, more, next) ∙ place
+  where
+    add_none : (k : ℕ) → k + 0 ≡ k
+    add_none k = omega arith
+
+    shifted : (k t : ℕ) → k + suc t ≡ suc k + t
+    shifted k t = omega arith
+
 apart : (m n : ℕ) → (m ≡ n → ⊥) → nat_eq m n ≡ false
 apart m n ne = elim (eqb_tells m n) [ inl l ↦ absurd (ne l.1) | inr r ↦ r.0 ]
 
@@ -267,33 +288,11 @@ module _ {T : Type 0} (r : Rules T) (Tells : Depth → T → Type 0) where
         subst (Told new) (append_assoc past (e ∷ []) es) (told_by_run es (past ++ e ∷ []) mid new (told_step s mid past e told st) run)
 
     module _ (frames : T → Thread) (lengths : (d : Depth) (x : T) → Tells d x → length (frames x) ≡ d.now) where
-      -- all of them together
-      together : (es : List Event) (xs : List T) (k : ℕ) → ((t : ℕ) (x : T) → slice_get xs t ≡ Some x → length (frames x) ≡ (depth_of (k + t) es).now)
-          → frames_below es k + sum_by (λ x. length (frames x)) xs ≡ frames_below es (k + length xs)
-      together es [] k each = omega (arith, ap (frames_below es) (add_none k))
-        where
-          add_none : (k : ℕ) → k + 0 ≡ k
-          add_none k = omega arith
-      together es (x ∷ xs) k each =
-          let here : length (frames x) ≡ (depth_of k es).now = each 0 x refl ∙ ap (λ n. (depth_of n es).now) (omega_none k) in
-          let rest : frames_below es (suc k) + sum_by (λ x. length (frames x)) xs ≡ frames_below es (suc k + length xs) =
-          together es xs (suc k) (λ t y h. each (suc t) y h ∙ ap (λ n. (depth_of n es).now) (shifted k t)) in
-          let place : frames_below es (suc k + length xs) ≡ frames_below es (k + suc (length xs)) = ap (frames_below es) (sym (shifted k (length xs))) in
-          let more : sum_by (λ y. length (frames y)) (x ∷ xs) ≡ length (frames x) + sum_by (λ y. length (frames y)) xs = sum_by-cons (λ y. length (frames y)) x xs in
-          let next : frames_below es (suc k) ≡ frames_below es k + (depth_of k es).now = refl in
-          omega (arith, here, rest, more, next) ∙ place
-        where
-          omega_none : (k : ℕ) → k + 0 ≡ k
-          omega_none k = omega arith
-
-          shifted : (k t : ℕ) → k + suc t ≡ suc k + t
-          shifted k t = omega arith
-
       pub told_frames : (p : Typed) → Tells first_depth (r.start p.main null) → FramesAreTold r frames p
       told_frames p first es new run =
           let told : Told new es = told_by_run es [] (opening r p) new (record { count = refl; tells = opened; none = λ t h. refl }) run in
           let each : (t : ℕ) (x : T) → slice_get new.threads t ≡ Some x → length (frames x) ≡ (depth_of t es).now = λ t x h. lengths (depth_of t es) x (told.tells t x h) in
-          (each, none_before _ ∙ (together es new.threads 0 (λ t x h. each t x h ∙ ap (λ n. (depth_of n es).now) (none_before t)) ∙ ap (frames_below es) (sym (told.count ∙ none_before (length new.threads)))))
+          (each, none_before _ ∙ (together (λ x. length (frames x)) es new.threads 0 (λ t x h. each t x h ∙ ap (λ n. (depth_of n es).now) (none_before t)) ∙ ap (frames_below es) (sym (told.count ∙ none_before (length new.threads)))))
         where
           none_before : (t : ℕ) → t ≡ 0 + t
           none_before t = omega arith

@@ -20,21 +20,21 @@ use Rattle.std.proofs.lemmas.Option.{slice_get_within}
 use Rattle.ca_model.proofs.FramesInPlace.{IsLast}
 use Rattle.ca_model.proofs.Choices.{IsRunning}
 
-same_mutexes : (gs : List Given) (s : Shared) → (give_all s gs).mutexes ≡ s.mutexes
+pub same_mutexes : (gs : List Given) (s : Shared) → (give_all s gs).mutexes ≡ s.mutexes
 same_mutexes [] s = refl
 same_mutexes (given.Mutex m ∷ gs) s = same_mutexes gs (give s (given.Mutex m))
 same_mutexes (given.Block b ∷ gs) s = same_mutexes gs (give s (given.Block b))
 
-same_ended : (gs : List Given) (s : Shared) → (give_all s gs).ended ≡ s.ended
+pub same_ended : (gs : List Given) (s : Shared) → (give_all s gs).ended ≡ s.ended
 same_ended [] s = refl
 same_ended (given.Mutex m ∷ gs) s = same_ended gs (give s (given.Mutex m))
 same_ended (given.Block b ∷ gs) s = same_ended gs (give s (given.Block b))
 
-mutexes_after : (s : Shared) (t : ℕ) (a : EventAct) → (effect s t a).mutexes ≡ s.mutexes
+pub mutexes_after : (s : Shared) (t : ℕ) (a : EventAct) → (effect s t a).mutexes ≡ s.mutexes
 mutexes_after s t (act.Retry site gs) = same_mutexes gs s
 mutexes_after s t _ = refl
 
-few_after : (s : Shared) (t : ℕ) (a : EventAct) → IsLegal s t a → s.threads ≤ 64 → (effect s t a).threads ≤ 64
+pub few_after : (s : Shared) (t : ℕ) (a : EventAct) → IsLegal s t a → s.threads ≤ 64 → (effect s t a).threads ≤ 64
 few_after s t (act.Create u) legal few = omega (arith, legal.allowed.0, legal.allowed.1)
 few_after s t (act.Retry site gs) legal few = omega (arith, same_threads gs s)
 few_after s t _ legal few = few

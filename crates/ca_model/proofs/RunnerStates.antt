@@ -103,7 +103,7 @@ ends_open (suc t) p h = omega arith
 ended_now : (m : set.FinSet nat_cmp) (t u : ℕ) → u ≢ t → set.contains (set.insert m t) u ≡ true → set.contains m u ≡ true
 ended_now m t u ne h = grind (members, rules)
 
-below_after : (s : Shared) (t : ℕ) (a : EventAct) → IsLegal s t a → EndedBelow s → (effect s t a).phase ≡ Open → EndedBelow (effect s t a)
+pub below_after : (s : Shared) (t : ℕ) (a : EventAct) → IsLegal s t a → EndedBelow s → (effect s t a).phase ≡ Open → EndedBelow (effect s t a)
 below_after s t act.End legal below open' = λ u h. elim (eqb_tells u t) [
   | inl same ↦ (omega (arith, same.1, ends_open t s.phase open'), omega (arith, same.1, legal.there))
   | inr other ↦ below u (ended_now s.ended t u other.1 h)
