@@ -1,28 +1,12 @@
 //! Whole typed trees, worked by hand from the rules of names, types and items, and which plans fit them.
 use crate::expression_types::{place_shown, shown};
 use crate::sources::{GIVEN_BLOCK, LOOP_POINTS, NULL_POINTER, PRINTED_SUM};
-use ca_lex::tokens;
+use crate::types_tests::typing;
 use ca_model::{Act, Checked, Exp, Function, Item, Plan, Stmt, Target, fits};
-use ca_read::program;
-use ca_shapes::each_program_of_a_text_is_written;
 use ca_tree::listed::Listed;
 use ca_tree::{FunId, ItemId, SiteId, VarId};
-use ca_types::check_types;
 use std::alloc::{AllocError, Global};
 use std::test::Fail;
-
-// The typing of a text.
-#[tactic(auto, using(ca_grammar::proofs::LexedEnds::ends_once))]
-fn checked(alloc: Global, text: &[u8]) -> Result<Option<Checked>, AllocError> {
-    let Ok(found) = tokens(alloc, text) else {
-        return Ok(None);
-    };
-    let Ok(tree) = program(alloc, &found) else {
-        return Ok(None);
-    };
-    each_program_of_a_text_is_written();
-    Ok(check_types(alloc, tree).ok())
-}
 
 fn target_shown(alloc: Global, target: &Target) -> Result<String, AllocError> {
     match target {
@@ -205,9 +189,9 @@ fn tree_shown(alloc: Global, source: &Checked) -> Result<String, AllocError> {
 }
 
 fn answer(alloc: Global, text: &[u8]) -> Result<String, AllocError> {
-    match checked(alloc, text)? {
-        Some(source) => tree_shown(alloc, &source),
-        None => format!(in alloc; "no typing"),
+    match typing(alloc, text)? {
+        Ok(source) => tree_shown(alloc, &source),
+        Err(fault) => Ok(fault),
     }
 }
 
@@ -421,9 +405,9 @@ fn plan_of(alloc: Global, case: Case<'static>) -> Result<Plan, AllocError> {
 #[test]
 fn these_plans_fit_the_list(rt: HostRuntime) -> Result<(), Fail> {
     let alloc = rt.alloc();
-    let found = checked(alloc, LIST)?;
-    assert!(rt; found.is_some());
-    let Some(source) = found else {
+    let found = typing(alloc, LIST)?;
+    assert!(rt; found.is_ok());
+    let Ok(source) = found else {
         return Ok(());
     };
     for case in PLANS {
