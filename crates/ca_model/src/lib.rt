@@ -39,5 +39,7 @@ pub use tree::{
     Act, BinOp, Exp, Function, GlobalStart, Item, LoadKind, Place, Stmt, Stmts, Target,
 };
 pub use types::{Kind, Meaning, ObjectType, Operand, TypeFault, TypeKind, ValueType, Wanted};
-pub use typing_laws::{a_program_has_a_typing_or_a_fault, typed_programs_are_well_formed};
+pub use typing_laws::{
+    a_program_has_a_typing_or_a_fault, typed_programs_are_printable, typed_programs_are_well_formed,
+};
 pub use values::{Addr, Ending, Event, EventAct, FaultKind, Given, Value};
