@@ -1,7 +1,6 @@
 -- The entry that comes, by what the code names.
-use Rattle.std.proofs.Common.{◌≡◌, ℕ, ℤ, Bool, true, false, List, Option, Some, None, refl, sym, ap, ◌∙◌, cond, subst, length, get_or}
+use Rattle.std.proofs.Common.{◌≡◌, ℕ, ℤ, Bool, true, List, Option, Some, None, refl, sym, ap, ◌∙◌, cond, subst}
 use Rattle.std.specs.FinMap as finite
-use Rattle.std.specs.FinSet as set
 use Rattle.std.specs.Option.{is_some}
 use Rattle.ca_tree.specs.declared.numbers.SiteId.{SiteId}
 use Rattle.ca_tree.specs.declared.numbers.MutexId.{MutexId}
@@ -18,9 +17,9 @@ use Rattle.ca_memory.specs.Mutexes.{Mutexes}
 use Rattle.ca_wants.specs.declared.next.Next.{Next}
 use Rattle.ca_wants.specs.declared.next.Next.TheVariants as next
 use Rattle.ca_wants.specs.Shown.{Shows}
-use Rattle.ca_entries.specs.Shares.{IsSharedBy, or_that}
+use Rattle.ca_entries.specs.Shares.{IsSharedBy, HasEnded, IsJoined, or_that}
 
-module _ (g : Shared) (m : Blocks) (os : Mutexes) (over : List Bool) (shares : IsSharedBy g m os over) (t k : ℕ) (r : Option SiteId) (gives : List Given) (w : Want) (n : Next) (shows : Shows n w r) where
+module _ (g : Shared) (m : Blocks) (os : Mutexes) (threads : ℕ) (shares : IsSharedBy g m os threads) (t k : ℕ) (r : Option SiteId) (gives : List Given) (w : Want) (n : Next) (shows : Shows n w r) where
   abbrev comes : Want → Option EventAct
   comes = the_entry g t k r gives
 
@@ -50,8 +49,8 @@ module _ (g : Shared) (m : Blocks) (os : Mutexes) (over : List Bool) (shares : I
   held_comes x is a held e =
       e ∙ sym (held_lock (finite.get g.owners x.0) x _ (ap (λ o. is_some (finite.get o x.0)) shares.owners ∙ held)) ∙ sym (ap comes (shown (next.Lock x) is).2)
 
-  pub join_comes : (u : ℤ) → n ≡ next.Join u → (a : Option EventAct) → (g.threads ≡ length over → ((u : ℕ) → set.contains g.ended u ≡ get_or over u false) → a ≡ join_entry g u) → a ≡ comes w
-  join_comes u is a e = e shares.threads shares.ended ∙ sym (ap comes (shown (next.Join u) is))
+  pub join_comes : (u : ℤ) (b : Bool) → n ≡ next.Join u → (a : Option EventAct) → IsJoined g n b → (g.threads ≡ threads → HasEnded g u b → a ≡ join_entry g u) → a ≡ comes w
+  join_comes u b is a joined e = e shares.threads (subst (λ y. IsJoined g y b) is joined) ∙ sym (ap comes (shown (next.Join u) is))
 
   pub retry_comes : (s : SiteId) → n ≡ next.Retry s → (a : Option EventAct) → a ≡ retrying r gives → a ≡ comes w
   retry_comes s is a e =

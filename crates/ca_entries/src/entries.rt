@@ -14,7 +14,7 @@ ghost use Rattle.ca_model.specs.Runner.{IsLeastUnused};
 ghost use Rattle.ca_model.specs.ComingEntries as coming;
 ghost use Rattle.ca_wants.specs.Shown.{Shows};
 ghost use Rattle.ca_memory.specs.Zeros.{IsNear};
-ghost use Rattle.ca_entries.specs.Shares.{IsSharedBy, given_back, or_that};
+ghost use Rattle.ca_entries.specs.Shares.{IsSharedBy, HasEnded, IsJoined, given_back, or_that};
 
 use crate::rollback::gives;
 use ca_memory::{Memory, Owners};
@@ -26,15 +26,14 @@ use std::alloc::Global;
 
 const MOST_CELLS: u64 = 1048576;
 
-const MOST_THREADS: usize = 64;
+const MOST_THREADS: u32 = 64;
 
-/// What entries hang on in the shared state: its blocks, the owners of its mutexes, and for each thread whether it has
-/// ended.
+/// What entries hang on in the shared state: its blocks, the owners of its mutexes, and the number of its threads.
 #[derive(Clone, Copy)]
 pub struct Parts<'a> {
     pub memory: &'a Memory,
     pub owners: &'a Owners,
-    pub ended: &'a [bool],
+    pub threads: u32,
 }
 
 // The address of an access to a cell that is there.
@@ -109,11 +108,11 @@ fn unlock_entry(owners: &Owners, thread: u32, m: MutexId) -> EventAct
 }
 
 // A create while there are fewer than 64 threads.
-fn create_entry(threads: usize) -> Option<EventAct>
+fn create_entry(threads: u32) -> Option<EventAct>
     ensures { result ≡ coming.create_entry threads }
 {
     if threads < MOST_THREADS {
-        Some(EventAct::Create(threads as u32))
+        Some(EventAct::Create(threads))
     } else if threads == MOST_THREADS {
         Some(EventAct::Fault(FaultKind::Thread))
     } else {
@@ -121,14 +120,14 @@ fn create_entry(threads: usize) -> Option<EventAct>
     }
 }
 
-// A join of a thread that has ended; none of one that hasn't.
-fn join_entry(ended: &[bool], number: i32) -> Option<EventAct>
-    ensures { (g : Shared) → g.threads ≡ length ended.now → ((u : ℕ) → set.contains g.ended u ≡ get_or ended.now u false) → result ≡ coming.join_entry g number }
+// A join of a thread, which has ended or not; none of one that hasn't (POSIX `pthread_join`).
+fn join_entry(threads: u32, number: i32, ended: bool) -> Option<EventAct>
+    ensures { (g : Shared) → g.threads ≡ threads → HasEnded g number ended → result ≡ coming.join_entry g number }
 {
-    if number < 1 || number as usize >= ended.len() {
+    if number < 1 || number as u32 >= threads {
         return Some(EventAct::Fault(FaultKind::Thread));
     }
-    if ended[number as usize] {
+    if ended {
         Some(EventAct::Join(number as u32))
     } else {
         None
@@ -144,7 +143,7 @@ fn failing(
     retry: Option<SiteId>,
     taken: &[Given],
 ) -> Result<EventAct, NoMemory>
-    ensures { IfOk result (λ a. (g : Shared) → IsSharedBy g parts.entry.memory.now parts.entry.owners.now parts.entry.ended.now → a ≡ coming.failing retry kind (given_back g thread taken.now)) }
+    ensures { IfOk result (λ a. (g : Shared) → IsSharedBy g parts.entry.memory.now parts.entry.owners.now parts.entry.threads → a ≡ coming.failing retry kind (given_back g thread taken.now)) }
 {
     let Some(site) = retry else {
         return Ok(EventAct::Fault(kind));
@@ -161,7 +160,7 @@ fn retrying(
     retry: Option<SiteId>,
     taken: &[Given],
 ) -> Result<Option<EventAct>, NoMemory>
-    ensures { IfOk result (λ a. (g : Shared) → IsSharedBy g parts.entry.memory.now parts.entry.owners.now parts.entry.ended.now → a ≡ coming.retrying retry (given_back g thread taken.now)) }
+    ensures { IfOk result (λ a. (g : Shared) → IsSharedBy g parts.entry.memory.now parts.entry.owners.now parts.entry.threads → a ≡ coming.retrying retry (given_back g thread taken.now)) }
 {
     let Some(site) = retry else {
         return Ok(None);
@@ -199,7 +198,7 @@ fn or_failing(
     retry: Option<SiteId>,
     taken: &[Given],
 ) -> Result<EventAct, NoMemory>
-    ensures { IfOk result (λ a. (g : Shared) → IsSharedBy g parts.entry.memory.now parts.entry.owners.now parts.entry.ended.now
+    ensures { IfOk result (λ a. (g : Shared) → IsSharedBy g parts.entry.memory.now parts.entry.owners.now parts.entry.threads
         → a ≡ or_that found (coming.failing retry Fault.Pointer (given_back g thread taken.now))) }
 {
     match found {
@@ -212,16 +211,17 @@ fn or_failing(
 }
 
 /// The entry that comes for a thread, by what it stands at, the site at which it may retry and what it has taken since its
-/// save; none where it waits or has ended.
+/// save; none where it waits or has ended. At a join it hangs on whether that thread has ended.
 pub fn entry(
     alloc: Global,
     parts: Parts<'_>,
     thread: u32,
     next: Next<'_>,
+    joined_ended: bool,
     retry: Option<SiteId>,
     taken: &[Given],
 ) -> Result<Option<EventAct>, NoMemory>
-    ensures { IfOk result (λ a. (g : Shared) (k : ℕ) (w : Want) → IsSharedBy g parts.entry.memory.now parts.entry.owners.now parts.entry.ended.now → IsLeastUnused g.blocks k → Shows next.entry w retry
+    ensures { IfOk result (λ a. (g : Shared) (k : ℕ) (w : Want) → IsSharedBy g parts.entry.memory.now parts.entry.owners.now parts.entry.threads → IsJoined g next.entry joined_ended → IsLeastUnused g.blocks k → Shows next.entry w retry
         → a ≡ coming.the_entry g thread k retry (given_back g thread taken.now) w) }
 {
     match next {
@@ -260,8 +260,8 @@ pub fn entry(
             let act = print_entry(alloc, text)?;
             Ok(Some(act))
         }
-        Next::Create { .. } => Ok(create_entry(parts.ended.len())),
-        Next::Join(number) => Ok(join_entry(parts.ended, number)),
+        Next::Create { .. } => Ok(create_entry(parts.threads)),
+        Next::Join(number) => Ok(join_entry(parts.threads, number, joined_ended)),
         Next::Call(f) => Ok(Some(EventAct::Call(f))),
         Next::Return(x) => Ok(Some(EventAct::Return(x))),
         Next::Turn => Ok(Some(EventAct::Turn)),

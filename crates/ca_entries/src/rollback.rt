@@ -38,7 +38,7 @@ fn is_first(
 
 // Whether a thread still holds a thing: it owns the mutex, or the block of the heap is live.
 fn is_held(parts: Parts<'_>, thread: u32, thing: Given) -> bool
-    ensures { (g : Shared) → IsSharedBy g parts.entry.memory.now parts.entry.owners.now parts.entry.ended.now → result ≡ is_held g thread thing }
+    ensures { (g : Shared) → IsSharedBy g parts.entry.memory.now parts.entry.owners.now parts.entry.threads → result ≡ is_held g thread thing }
 {
     match thing {
         Given::Mutex(m) => parts.owners.owner_if_there(m) == Some(thread),
@@ -56,7 +56,7 @@ pub fn gives(
     thread: u32,
     taken: &[Given],
 ) -> Result<Gives, NoMemory>
-    ensures { IfOk result (λ gs. (g : Shared) → IsSharedBy g parts.entry.memory.now parts.entry.owners.now parts.entry.ended.now → gs ≡ given_back g thread taken.now) }
+    ensures { IfOk result (λ gs. (g : Shared) → IsSharedBy g parts.entry.memory.now parts.entry.owners.now parts.entry.threads → gs ≡ given_back g thread taken.now) }
 {
     let mut mutexes = BTreeSet::new(alloc);
     let mut blocks = BTreeSet::new(alloc);

@@ -45,9 +45,6 @@ fn owners(rt: &impl Abort, alloc: Global) -> Result<Owners, NoMemory> {
     Ok(owners)
 }
 
-// Of threads 0 to 3, thread 2 has ended.
-const ENDED: [bool; 4] = [false, false, true, false];
-
 const TAKEN: [Given; 7] = [
     Given::Mutex(M0),
     Given::Block(3),
@@ -79,12 +76,15 @@ impl State {
         next: Next<'_>,
         retry: Option<SiteId>,
     ) -> Result<Option<EventAct>, NoMemory> {
-        let parts = Parts {
+        entry(alloc, self.parts(4), 1, next, false, retry, &TAKEN)
+    }
+
+    fn parts(&self, threads: u32) -> Parts<'_> {
+        Parts {
             memory: &self.memory,
             owners: &self.owners,
-            ended: &ENDED,
-        };
-        entry(alloc, parts, 1, next, retry, &TAKEN)
+            threads,
+        }
     }
 }
 
@@ -245,28 +245,27 @@ fn threads_are_made_joined_or_waited_for(rt: HostRuntime) -> Result<(), Fail> {
     };
     assert_eq!(rt; s.comes(alloc, create, None)?, Some(EventAct::Create(4)));
     for (threads, act) in [
-        (63usize, Some(EventAct::Create(63))),
+        (63, Some(EventAct::Create(63))),
         (64, fault(FaultKind::Thread)),
         (65, None),
     ] {
-        let ended = vec![in alloc; false; threads]?;
-        let parts = Parts {
-            memory: &s.memory,
-            owners: &s.owners,
-            ended: &ended,
-        };
-        assert_eq!(rt; entry(alloc, parts, 1, create, None, &TAKEN)?, act);
+        let parts = s.parts(threads);
+        assert_eq!(rt; entry(alloc, parts, 1, create, false, None, &TAKEN)?, act);
     }
-    for (number, act) in [
-        (2, Some(EventAct::Join(2))),
-        (1, None),
-        (3, None),
-        (0, fault(FaultKind::Thread)),
-        (4, fault(FaultKind::Thread)),
-        (-1, fault(FaultKind::Thread)),
-        (i32::MIN, fault(FaultKind::Thread)),
+    for (number, ended, act) in [
+        (2, true, Some(EventAct::Join(2))),
+        (3, true, Some(EventAct::Join(3))),
+        (1, false, None),
+        (0, false, fault(FaultKind::Thread)),
+        (4, false, fault(FaultKind::Thread)),
+        (-1, false, fault(FaultKind::Thread)),
+        (i32::MIN, true, fault(FaultKind::Thread)),
     ] {
-        assert_eq!(rt; s.comes(alloc, Next::Join(number), None)?, act);
+        let join = Next::Join(number);
+        assert_eq!(rt;
+            entry(alloc, s.parts(4), 1, join, ended, None, &TAKEN)?,
+            act
+        );
     }
     Ok(())
 }
@@ -301,11 +300,7 @@ fn what_is_private_comes_as_it_is(rt: HostRuntime) -> Result<(), Fail> {
 fn each_thing_is_given_back_once_the_latest_first(rt: HostRuntime) -> Result<(), Fail> {
     let alloc = rt.alloc();
     let s = opened(&rt, alloc)?;
-    let parts = Parts {
-        memory: &s.memory,
-        owners: &s.owners,
-        ended: &ENDED,
-    };
+    let parts = s.parts(4);
     let given = gives(alloc, parts, 2, &TAKEN)?;
     assert_eq!(rt;
         given.as_slice(),

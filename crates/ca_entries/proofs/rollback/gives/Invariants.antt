@@ -10,7 +10,7 @@ abbrev pub invariant-things : goal.invariant-things
 invariant-things l = record {
   within : l.left ≤ length l.taken;
   met : (g : Given) → met l.mutexes l.blocks g ≡ stands_in (drop l.left l.taken) g;
-  given : (g : Shared) → IsSharedBy g l.parts.memory.now l.parts.owners.now l.parts.ended.now → l.given.items ≡ given_back g l.thread (drop l.left l.taken);
+  given : (g : Shared) → IsSharedBy g l.parts.memory.now l.parts.owners.now l.parts.threads → l.given.items ≡ given_back g l.thread (drop l.left l.taken);
 }
 
 abbrev pub decreases-things : goal.decreases-things
