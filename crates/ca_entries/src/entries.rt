@@ -1,6 +1,6 @@
 //! The entry that comes for a thread.
 
-ghost use Rattle.std.specs.Prelude.{◌≡◌, ℕ, List, length, get_or, cond, false, Option, Some, None, IfOk};
+ghost use Rattle.std.specs.Prelude.{◌≡◌, ◌↔◌, ℕ, List, cond, is_some, IsTrue, Option, Some, IfOk};
 ghost use Rattle.std.specs.FinMap as finite;
 ghost use Rattle.std.specs.FinSet as set;
 ghost use Rattle.ca_tree.specs.declared.numbers.SiteId.{SiteId};
@@ -10,7 +10,7 @@ ghost use Rattle.ca_model.specs.declared.values.Given.{Given as Thing};
 ghost use Rattle.ca_model.specs.Shared as shared;
 ghost use Rattle.ca_model.specs.Shared.{Shared};
 ghost use Rattle.ca_model.specs.Asks.{Want};
-ghost use Rattle.ca_model.specs.Runner.{IsLeastUnused};
+ghost use Rattle.ca_model.specs.Runner.{IsLeastUnused, IsTimeout};
 ghost use Rattle.ca_model.specs.ComingEntries as coming;
 ghost use Rattle.ca_wants.specs.Shown.{Shows};
 ghost use Rattle.ca_memory.specs.Zeros.{IsNear};
@@ -273,5 +273,36 @@ pub fn entry(
             Ok(act)
         }
         Next::Ended => Ok(None),
+    }
+}
+
+/// Whether an entry comes for a thread, by what it stands at and the site at which it may retry. It takes no memory.
+pub fn comes(parts: Parts<'_>, next: Next<'_>, joined_ended: bool, retry: Option<SiteId>) -> bool
+    ensures { (g : Shared) (t k : ℕ) (gives : List Thing) (w : Want) → IsSharedBy g parts.entry.memory.now parts.entry.owners.now parts.entry.threads → IsJoined g next.entry joined_ended → Shows next.entry w retry
+        → result ≡ is_some (coming.the_entry g t k retry gives w) }
+{
+    match next {
+        Next::Lock(m) => {
+            if parts.owners.owner_if_there(m).is_some() {
+                retry.is_some()
+            } else {
+                m.0 < parts.owners.count()
+            }
+        }
+        Next::Create { .. } => create_entry(parts.threads).is_some(),
+        Next::Join(number) => join_entry(parts.threads, number, joined_ended).is_some(),
+        Next::Ended => false,
+        _ => true,
+    }
+}
+
+/// Whether the entry that comes for a thread is a retry at a held lock. It takes no memory.
+pub fn times_out(parts: Parts<'_>, next: Next<'_>, retry: Option<SiteId>) -> bool
+    ensures { (g : Shared) (t k : ℕ) (gives : List Thing) (w : Want) (a : EventAct) → IsSharedBy g parts.entry.memory.now parts.entry.owners.now parts.entry.threads → Shows next.entry w retry
+        → coming.the_entry g t k retry gives w ≡ Some a → (IsTrue result ↔ IsTimeout a w) }
+{
+    match next {
+        Next::Lock(m) => parts.owners.owner_if_there(m).is_some() && retry.is_some(),
+        _ => false,
     }
 }

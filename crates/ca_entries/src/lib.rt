@@ -4,7 +4,7 @@
 mod entries;
 mod rollback;
 
-pub use entries::{Parts, entry};
+pub use entries::{Parts, comes, entry, times_out};
 pub use rollback::gives;
 
 #[cfg(test)]

@@ -1,5 +1,5 @@
 // Entries at a small shared state, worked by hand.
-use super::{Parts, entry, gives};
+use super::{Parts, comes, entry, gives, times_out};
 use ca_memory::{Memory, Owners};
 use ca_model::{Addr, EventAct, FaultKind, Given, LoadKind, Value};
 use ca_tree::listed::Listed;
@@ -308,5 +308,33 @@ fn each_thing_is_given_back_once_the_latest_first(rt: HostRuntime) -> Result<(),
     );
     let given = gives(alloc, parts, 0, &[])?;
     assert_eq!(rt; given.as_slice().len(), 0);
+    Ok(())
+}
+
+#[test]
+fn it_is_told_without_memory_whether_an_entry_comes(rt: HostRuntime) -> Result<(), Fail> {
+    let alloc = rt.alloc();
+    let s = opened(&rt, alloc)?;
+    let parts = s.parts(4);
+    let site = Some(SiteId(4));
+    for (next, retry, some, late) in [
+        (Next::Lock(M2), None, true, false),
+        (Next::Lock(M2), site, true, false),
+        (Next::Lock(M1), None, false, false),
+        (Next::Lock(M1), site, true, true),
+        (Next::Lock(M9), site, false, false),
+        (Next::Join(3), None, false, false),
+        (Next::Join(0), None, true, false),
+        (Next::Free { at: at(3, 0) }, site, true, false),
+        (Next::Retry(SiteId(4)), site, true, false),
+        (Next::Turn, None, true, false),
+        (Next::Ended, None, false, false),
+    ] {
+        assert_eq!(rt; comes(parts, next, false, retry), some);
+        assert_eq!(rt; times_out(parts, next, retry), late);
+        let act = entry(alloc, parts, 1, next, false, retry, &TAKEN)?;
+        assert_eq!(rt; act.is_some(), some);
+    }
+    assert!(rt; comes(parts, Next::Join(3), true, None));
     Ok(())
 }
