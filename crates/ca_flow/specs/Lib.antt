@@ -5,5 +5,6 @@ pub mod Linked
 pub mod Graphs
 pub mod Flows
 pub mod Lowerings
+pub mod Definitions
 pub mod Places
 pub mod Tables

@@ -92,6 +92,7 @@ pub record ArePlaces (l : Lowering) (places : List (FunId × NodeId)) : Type 0 w
 -- what code keeps beside its graphs
 pub record HasTables (l : Lowering) (u : Uses) (places : List (FunId × NodeId)) (start : FunId) (opening : List GlobalStart) (mutexes limit : ℕ) : Type 0 where
   pub uses_are : u ≡ uses_of l.source.functions
+  pub few : length places < 4294967296
   pub places_are : ArePlaces l places
   pub start_is : start ≡ l.source.main
   pub opening_is : opening ≡ l.source.globals

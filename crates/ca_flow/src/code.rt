@@ -69,6 +69,7 @@ impl Code {
         requires graphs { AreGraphsOf checked.now.typed plan.now graphs.items }
         ensures { IfOk result (λ c. c ≡ record { source = checked.now.typed; plan = plan.now; graphs = graphs.items }) }
     {
+        let main = main_of(checked.program());
         let uses = find_uses(alloc, checked)?;
         let sites = last_site(&graphs);
         let places = places(alloc, &graphs, sites)?;
@@ -79,7 +80,7 @@ impl Code {
             graphs,
             uses,
             places,
-            main: main_of(checked.program()),
+            main,
             globals,
             mutexes: checked.mutexes(),
             limit: plan.limit,
@@ -109,7 +110,7 @@ impl Code {
         ensures calls { (i : ItemId) → Contains result.now i ↔ ((x : Item) × IsItem self.now.source x i × Calls x.act f) }
         ensures ascend { IsStrictlyIncreasing (map (λ i. i.0) result.now) }
     {
-        self.uses.calls[f.0 as usize].as_slice()
+        self.uses.calls_of(f)
     }
 
     /// How many mutexes the source has. It takes no memory.
@@ -146,7 +147,7 @@ impl Code {
         requires { (x : Item) × IsItem self.now.source x item }
         ensures { (f : Function) (x : Item) → Contains self.now.source.functions f → Contains (items_of f) x → x.id ≡ item → result ≡ f.id }
     {
-        self.uses.functions[(item.0 - 1) as usize]
+        self.uses.function_at((item.0 - 1) as usize)
     }
 
     /// The function of a site, and a node of its graph with that site. It takes no memory.
@@ -169,7 +170,7 @@ impl Code {
         requires { f.0 < length self.now.source.functions }
         ensures { (fn : Function) → slice_get self.now.source.functions f.0 ≡ Some fn → IsTrue result ↔ BeginsThreads self.now.source fn }
     {
-        f.0 == self.main.0 || self.uses.created[f.0 as usize]
+        f.0 == self.main.0 || self.uses.is_created(f)
     }
 }
 

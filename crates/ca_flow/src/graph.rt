@@ -1,6 +1,8 @@
 //! Graphs of functions.
 
-ghost use Rattle.std.specs.Prelude.{◌≡◌, ◌<◌, ◌++◌, [], ℕ, length, Some, IfOk, slice_get, option_map, map, replicate};
+ghost use Rattle.std.specs.Prelude.{◌≡◌, ◌<◌, ◌≤◌, ◌++◌, [], ℕ, length, Some, IfOk, slice_get, option_map, map, Contains};
+ghost use Rattle.ca_model.specs.Sites.{items_of};
+ghost use Rattle.ca_model.specs.declared.tree.Item.{Item};
 ghost use Rattle.ca_model.specs.declared.tree.Function.{Function};
 ghost use Rattle.ca_flow.specs.declared.instr.NodeId.{NodeId};
 ghost use Rattle.ca_flow.specs.declared.instr.Step.{Step};
@@ -104,12 +106,14 @@ fn nodes_before(alloc: Global, steps: &[Step]) -> Result<Vec<Vec<NodeId>>, NoMem
 // The lowest number of an item of a function: the one behind the closing brace of the function before it.
 fn lowest_item(checked: &Checked, function: FunId) -> u32
     requires { function.0 < length checked.now.typed.functions }
+    ensures { (f : Function) (i : Item) → slice_get checked.now.typed.functions function.0 ≡ Some f → Contains (items_of f) i → (0 < result) × (result ≤ i.id.0) × (i.id.0 ≤ f.close.id.0) }
 {
+    let _program = checked.program();
     if function.0 == 0 {
-        1
-    } else {
-        checked.function(FunId(function.0 - 1)).close.id.0.saturating_add(1)
+        return 1;
     }
+    let before = checked.function(FunId(function.0 - 1));
+    before.close.id.0.saturating_add(1)
 }
 
 impl Graph {
@@ -130,9 +134,10 @@ impl Graph {
         ensures registers { IfOk result (λ g. g.registers ≡ registers) }
         ensures flow { IfOk result (λ g. (f : Function) → slice_get checked.now.typed.functions function.0 ≡ Some f → IsFlowOf checked.now.typed f g) }
     {
-        let lowest = lowest_item(checked, function);
+        let _program = checked.program();
         let tree = checked.function(function);
-        let count = tree.close.id.0.saturating_add(1).saturating_sub(lowest);
+        let lowest = lowest_item(checked, function);
+        let count = tree.close.id.0.saturating_sub(lowest).saturating_add(1);
         let (first, links) = find_links(alloc, tree)?;
         let after = nodes_after(alloc, &steps)?;
         let before = nodes_before(alloc, &steps)?;
@@ -189,7 +194,8 @@ impl Graph {
 
     /// The nodes with their links, in order of their numbers. It takes no memory.
     pub fn steps(&self) -> &[Step]
-        ensures { result.now ≡ self.now.steps }
+        ensures steps { result.now ≡ self.now.steps }
+        ensures few { length self.now.steps < 4294967296 }
     {
         self.steps.as_slice()
     }

@@ -1,8 +1,8 @@
 //! Which function each item is of, which items call each function, and of which functions threads are made.
 
-ghost use Rattle.std.specs.Prelude.{◌≡◌, [], IfOk, length, replicate, false};
+ghost use Rattle.std.specs.Prelude.{◌≡◌, ◌<◌, [], IfOk, length, replicate, false, get_or};
 ghost use Rattle.ca_model.specs.Sites.{if_any, items_in, items_in_all, items_of};
-ghost use Rattle.ca_flow.specs.Tables.{with_item, with_items, uses, uses_of};
+ghost use Rattle.ca_flow.specs.Tables.{row, with_item, with_items, uses, uses_of};
 
 use crate::rows::{add, empty_rows};
 use ca_model::{Act, Checked, Function, Item, Stmt};
@@ -13,9 +13,9 @@ use std::marker::Model;
 /// The function of each item in order; for each function the items that call it, and whether a thread is made of it.
 #[derive(Drop)]
 pub(crate) struct Uses {
-    pub(crate) functions: Vec<FunId>,
-    pub(crate) calls: Vec<Vec<ItemId>>,
-    pub(crate) created: Vec<bool>,
+    functions: Vec<FunId>,
+    calls: Vec<Vec<ItemId>>,
+    created: Vec<bool>,
 }
 
 impl Model for Uses {
@@ -27,6 +27,30 @@ impl Model for Uses {
 }
 
 impl Uses {
+    /// The items that call a function.
+    pub(crate) fn calls_of(&self, f: FunId) -> &[ItemId]
+        requires { f.0 < length self.now.calls }
+        ensures { result.now ≡ row self.now.calls f.0 }
+    {
+        self.calls[f.0 as usize].as_slice()
+    }
+
+    /// The function of an item, by its place.
+    pub(crate) fn function_at(&self, place: usize) -> FunId
+        requires { place < length self.now.functions }
+        ensures { result ≡ get_or self.now.functions place result }
+    {
+        self.functions[place]
+    }
+
+    /// Whether a thread is made of a function.
+    pub(crate) fn is_created(&self, f: FunId) -> bool
+        requires { f.0 < length self.now.created }
+        ensures { result ≡ get_or self.now.created f.0 false }
+    {
+        self.created[f.0 as usize]
+    }
+
     fn add(&mut self, function: FunId, item: &Item) -> Result<(), NoMemory>
         ensures { IfOk result (λ u. self.new ≡ with_item function self.old item.now) }
     {
@@ -106,7 +130,8 @@ fn function(uses: &mut Uses, function: &Function) -> Result<(), NoMemory>
     ensures { IfOk result (λ u. uses.new ≡ with_items function.now.id uses.old (items_of function.now)) }
 {
     statements(uses, function.id, function.body.as_slice())?;
-    uses.add(function.id, &function.close)
+    uses.add(function.id, &function.close)?;
+    Ok(())
 }
 
 fn no_uses(alloc: Global, functions: u32) -> Result<Uses, NoMemory>
