@@ -13,3 +13,4 @@ pub mod SitePlaces
 pub mod SiteItems
 pub mod UsesFound
 pub mod LoweredSites
+pub mod CrossingCode

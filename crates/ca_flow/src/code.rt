@@ -184,3 +184,10 @@ fn copied(alloc: Global, globals: &[GlobalStart]) -> Result<Vec<GlobalStart>, No
     }
     Ok(copy)
 }
+
+fn crosses<T: Send + Sync>() {}
+
+/// Code may be moved to other threads, and shared with them.
+pub fn code_crosses_threads() {
+    crosses::<Code>();
+}

@@ -11,7 +11,7 @@ mod rows;
 mod searches;
 mod uses;
 
-pub use code::Code;
+pub use code::{Code, code_crosses_threads};
 pub use graph::Graph;
 pub use instr::{AtSite, Instr, Links, Node, NodeId, Reg, Regs, Step};
 pub use links::{Link, destroys, find_links};
