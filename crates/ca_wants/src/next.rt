@@ -6,29 +6,14 @@ use ca_tree::{FunId, MutexId, SiteId};
 /// The action that a thread stands at. A displacement is in cells.
 #[derive(Clone, Copy, Debug, PartialEq, Eq)]
 pub enum Next<'a> {
-    Read {
-        at: Value,
-        by: i64,
-        kind: LoadKind,
-    },
-    Write {
-        at: Value,
-        by: i64,
-        value: Value,
-    },
+    Read { at: Value, by: i64, kind: LoadKind },
+    Write { at: Value, by: i64, value: Value },
     Lock(MutexId),
     Unlock(MutexId),
-    Malloc {
-        cells: i64,
-    },
-    Free {
-        at: Value,
-    },
+    Malloc { cells: i64 },
+    Free { at: Value },
     Print(&'a [u8]),
-    Create {
-        function: FunId,
-        argument: Value,
-    },
+    Create { function: FunId, argument: Value },
     /// A join of a thread by its number.
     Join(i32),
     Call(FunId),
