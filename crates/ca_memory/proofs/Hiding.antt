@@ -117,7 +117,7 @@ is_held (Some b) = b.heap && b.live
 abbrev Alike : Blocks → Blocks → Type 0
 Alike m n = (b : ℕ) → is_held (finite.get m b) ≡ is_held (finite.get n b)
 
-held_so : (m : Blocks) (b : ℕ) → IsHeapStart m (start_of b) → is_held (finite.get m b) ≡ true
+pub held_so : (m : Blocks) (b : ℕ) → IsHeapStart m (start_of b) → is_held (finite.get m b) ≡ true
 held_so m b (k, c, is, at) = ap (λ n. is_held (finite.get m n)) (ap number_of is) ∙ ap is_held at
 
 held_is : (m : Blocks) (b : ℕ) (o : Option Block) → finite.get m b ≡ o → is_held o ≡ true → IsHeapStart m (start_of b)

@@ -89,7 +89,7 @@ none_found old mid t gs k (Some n) were first h = tt
 none_found old mid t gs k None were first h =
     all_found old t gs k were (at_end gs k (λ g at. let m = thing_gone mid t g (first g at) in h m.0 (at ∙ ap Some m.1)))
 
-same_count : (o : Mutexes) (gs : List Given) → (owners_without_all o gs).count ≡ o.count
+pub same_count : (o : Mutexes) (gs : List Given) → (owners_without_all o gs).count ≡ o.count
 same_count o [] = refl
 same_count o (given.Mutex m ∷ gs) = same_count (owners_without o (given.Mutex m)) gs
 same_count o (given.Block b ∷ gs) = same_count o gs

@@ -1,0 +1,5 @@
+pub mod Ended
+pub mod Things
+pub mod KeptEffects
+pub mod Noting
+pub mod Legality
