@@ -1,5 +1,5 @@
 -- The threads that have ended, by what is kept of each.
-use Rattle.std.proofs.Common.{◌≡◌, ◌≢◌, ◌<◌, ◌+◌, ℕ, zero, suc, Bool, true, false, cond, List, [], ◌∷◌, ◌++◌, length, Option, Some, None, refl, sym, ap, ◌∙◌, subst, arith, rules, get_or, inl, inr, length-append}
+use Rattle.std.proofs.Common.{◌≡◌, ◌≢◌, ◌<◌, ◌+◌, ℕ, zero, suc, Bool, true, false, cond, List, [], ◌∷◌, ◌++◌, length, Option, Some, None, refl, sym, ap, ◌∙◌, arith, rules, get_or, inl, inr, length-append}
 use Rattle.std.specs.Prelude.{slice_get, slice_set}
 use Rattle.std.specs.Ordering.{nat_cmp}
 use Rattle.std.specs.FinSet as set
@@ -82,9 +82,9 @@ flag_there (p ∷ ps) (suc t) (suc q) ne = flag_there ps t q (λ e. ne (ap suc e
 
 pub ended_more : (ps : List Progress) (t : ℕ) → t < length ps → ended_from 0 (flagged ps t) ≡ set.insert (ended_from 0 ps) t
 ended_more ps t lt = same_set nat_cmp_total nat_cmp-IsAntisymmetric _ _ (λ q. elim (eqb_tells q t) [
-    | inl same ↦ ended_here (flagged ps t) q ∙ (ap (λ n. flag_at (slice_get (flagged ps t) n)) same.1 ∙ (flag_here ps t lt ∙ sym (ap (set.contains (set.insert (ended_from 0 ps) t)) same.1 ∙ in_here (ended_from 0 ps) t)))
-    | inr other ↦ ended_here (flagged ps t) q ∙ (flag_there ps t q other.1 ∙ (sym (ended_here ps q) ∙ sym (in_there (ended_from 0 ps) t q other.1)))
-  ])
+  | inl same ↦ ended_here (flagged ps t) q ∙ (ap (λ n. flag_at (slice_get (flagged ps t) n)) same.1 ∙ (flag_here ps t lt ∙ sym (ap (set.contains (set.insert (ended_from 0 ps) t)) same.1 ∙ in_here (ended_from 0 ps) t)))
+  | inr other ↦ ended_here (flagged ps t) q ∙ (flag_there ps t q other.1 ∙ (sym (ended_here ps q) ∙ sym (in_there (ended_from 0 ps) t q other.1)))
+])
 
 -- a thread that is made
 pub none_more : (ps : List Progress) (n place : ℕ) → ended_from n (ps ++ begun place ∷ []) ≡ ended_from n ps

@@ -1,13 +1,12 @@
 -- The effects of entries on the kept parts.
-use Rattle.std.proofs.Common.{◌≡◌, ◌<◌, ◌+◌, ◌∷◌, ◌++◌, [], ℕ, List, length, Option, Some, None, Bool, true, false, refl, sym, ap, ◌∙◌}
+use Rattle.std.proofs.Common.{◌≡◌, ◌<◌, ◌∷◌, ◌++◌, [], ℕ, List, length, Some, None, Bool, true, false, refl, sym, ap, ◌∙◌}
 use Rattle.std.specs.Prelude.{if◌then◌else◌}
 use Rattle.ca_tree.specs.declared.numbers.SiteId.{SiteId}
 use Rattle.ca_model.specs.declared.values.Value.{Value}
 use Rattle.ca_model.specs.declared.values.Given.{Given}
 use Rattle.ca_model.specs.declared.values.EventAct.{EventAct}
 use Rattle.ca_model.specs.declared.values.EventAct.TheVariants as act
-use Rattle.ca_model.specs.Shared.{Shared, Blocks, CanFree, effect, give_all, ended_phase}
-use Rattle.ca_model.specs.Shared as shared
+use Rattle.ca_model.specs.Shared.{Shared, Blocks, CanFree, effect, ended_phase}
 use Rattle.ca_model.specs.ComingEntries.{can_free}
 use Rattle.ca_model.proofs.Entries.{can_free_is}
 use Rattle.ca_memory.specs.Mutexes.{Mutexes}
@@ -15,8 +14,8 @@ use Rattle.ca_memory.specs.GivenBack.{AreBlocksHeld, AreMutexesHeld, blocks_with
 use Rattle.ca_shared.specs.declared.refusals.Illegal.{Illegal}
 use Rattle.ca_shared.specs.declared.phase.Phase.{Phase}
 use Rattle.ca_shared.specs.declared.threads.Progress.{Progress}
-use Rattle.ca_shared.specs.Refusals.{bad, of_free, of_act}
-use Rattle.ca_shared.specs.Kept.{shared_of, phase_of, begun, flagged, ended_from}
+use Rattle.ca_shared.specs.Refusals.{bad, of_act}
+use Rattle.ca_shared.specs.Kept.{shared_of, phase_of, begun, flagged}
 use Rattle.ca_shared.proofs.Ended.{ended_more, flagged_length, none_more, one_more}
 use Rattle.ca_shared.proofs.Things.{all_held, gives_all}
 

@@ -1,12 +1,12 @@
 -- What isn't refused is legal, and what is legal isn't refused.
-use Rattle.std.proofs.Common.{◌≡◌, ◌≢◌, ◌<◌, ◌≤◌, ◌+◌, ◌^◌, ℕ, zero, suc, ℤ, pos, negsuc, Bool, true, false, List, [], ◌∷◌, ◌++◌, Option, Some, None, refl, sym, ap, subst, ◌∙◌, arith, inl, inr, rules}
-use Rattle.std.specs.Prelude.{◌⊎◌, ◌&&◌, ◌==◌, if◌then◌else◌, nat_lt, nat_le, IsSome, is_some}
+use Rattle.std.proofs.Common.{◌≡◌, ◌≢◌, ◌<◌, ◌≤◌, ◌+◌, ◌^◌, ℕ, zero, suc, ℤ, pos, negsuc, Bool, true, false, List, [], ◌∷◌, Option, Some, None, refl, sym, ap, ◌∙◌, arith, inl, inr, rules}
+use Rattle.std.specs.Prelude.{◌&&◌, ◌==◌, if◌then◌else◌, nat_lt, nat_le, IsSome}
 use Rattle.std.specs.Ordering.{int_eq, nat_cmp}
 use Rattle.std.specs.FinMap as map
 use Rattle.std.specs.FinMap.{gets}
 use Rattle.std.specs.FinSet as set
 use Rattle.std.specs.FinSet.{members}
-use Rattle.std.proofs.lemmas.Bool.{cond-true, cond-false, lt-ltb, ltb-true, le-leb, leb-true, eq-eqb, eqb-true, and_parts, and_from}
+use Rattle.std.proofs.lemmas.Bool.{cond-true, lt-ltb, ltb-true, le-leb, leb-true, eq-eqb, eqb-true, and_parts, and_from}
 use Rattle.std.proofs.lemmas.Bool.Decides.{eqb_tells}
 use Rattle.ca_tree.specs.declared.numbers.MutexId.{MutexId}
 use Rattle.ca_model.specs.declared.values.Addr.{Addr}
@@ -18,22 +18,22 @@ use Rattle.ca_model.specs.declared.values.Event.{Event}
 use Rattle.ca_model.specs.declared.values.EventAct.{EventAct}
 use Rattle.ca_model.specs.declared.values.EventAct.TheVariants as act
 use Rattle.ca_model.specs.declared.tree.GlobalStart.{GlobalStart}
-use Rattle.ca_model.specs.Arith.{same, null, number}
-use Rattle.ca_model.specs.Shared.{Blocks, Block, Shared, Phase, Open, Finished, Failed, cell, live_cells, give, give_all, effect, Holds, HoldsEach, Allows, IsLegal, CanMake, CanFree, IsHeapStart}
+use Rattle.ca_model.specs.Arith.{same, number}
+use Rattle.ca_model.specs.Shared.{Blocks, Block, Shared, Phase, Open, Finished, Failed, cell, live_cells, give, give_all, effect, Holds, HoldsEach, Allows, IsLegal, CanMake, IsHeapStart}
 use Rattle.ca_model.specs.Machine.{AllLegal}
 use Rattle.ca_model.specs.Matched.{shared_after}
-use Rattle.ca_model.specs.ComingEntries.{is_heap, can_free, EndedBelow}
+use Rattle.ca_model.specs.ComingEntries.{is_heap, can_free}
 use Rattle.ca_model.proofs.Entries.{same_is, same_self, can_free_is, can_free_so}
 use Rattle.ca_model.proofs.Retries.{heap_is}
-use Rattle.ca_model.proofs.KeptByRuns.{few_after, same_ended, same_mutexes}
+use Rattle.ca_model.proofs.KeptByRuns.{few_after, same_ended}
 use Rattle.ca_model.proofs.Law.{same_threads}
 use Rattle.ca_model.proofs.RunnerStates.{below_after}
 use Rattle.ca_memory.specs.Zeros.{start_of}
 use Rattle.ca_shared.specs.declared.refusals.Illegal.{Illegal}
 use Rattle.ca_shared.specs.declared.refusals.Illegal.TheVariants as no
-use Rattle.ca_shared.specs.Histories.{History, opened, state}
-use Rattle.ca_shared.specs.Refusals.{bad, of_read, of_write, of_lock, of_owner, if_mutex, of_block, at_least_one, of_malloc, of_free, of_create, of_join, of_thing, of_things, of_act, if_open, if_going, refusal}
-use Rattle.ca_shared.specs.Legal.{IsLegalHistory, HasNumber, IsNumbered, IsWellKept, LegalEntriesKeep, RefusalsAreExact}
+use Rattle.ca_shared.specs.Histories.{opened, state}
+use Rattle.ca_shared.specs.Refusals.{bad, of_read, of_write, of_lock, of_owner, if_mutex, of_block, at_least_one, of_malloc, of_thing, of_things, of_act, if_open, if_going, refusal}
+use Rattle.ca_shared.specs.Legal.{HasNumber, IsNumbered, IsWellKept, LegalEntriesKeep, RefusalsAreExact}
 
 -- a test that keeps nothing back
 passed : (b : Bool) (more : Option Illegal) (why : Illegal) → (if b then more else Some why) ≡ None → (b ≡ true) × (more ≡ None)
@@ -238,8 +238,10 @@ opened_well gs n = record { owned = none_owned; ended = none_ended; few = omega 
       where
         none : (u : ℕ) → set.contains (set.empty {R = nat_cmp}) u ≡ false
         none u = grind (members, rules)
+
     none_ended : (u : ℕ) → set.contains (set.empty {R = nat_cmp}) u ≡ true → u < 1
     none_ended u h = absurd (nobody u h)
+
     none_owned : (m u : ℕ) → map.get (map.empty {K = ℕ} {X = ℕ} {R = nat_cmp}) m ≡ Some u → m < n
     none_owned m u h = absurd (let never : ◌≡◌ {A = Option ℕ} None (Some u) = sym (none m) ∙ h in cc)
       where

@@ -3,3 +3,5 @@ pub mod Things
 pub mod KeptEffects
 pub mod Noting
 pub mod Legality
+pub mod Appending
+pub mod Openings

@@ -1,10 +1,11 @@
 -- The counts of threads after an entry.
-use Rattle.std.proofs.Common.{◌≡◌, ◌≢◌, ◌<◌, ◌≤◌, ◌+◌, ◌-◌, ℕ, zero, suc, Bool, true, false, cond, List, [], ◌∷◌, ◌++◌, length, Option, Some, None, refl, sym, ap, ◌∙◌, subst, arith, get_or}
+use Rattle.std.proofs.Common.{◌≡◌, ◌<◌, ◌≤◌, ◌+◌, ◌-◌, ℕ, zero, suc, Bool, true, false, cond, List, [], ◌∷◌, length, Option, Some, None, ap, ◌∙◌, arith, get_or}
 use Rattle.std.specs.Prelude.{slice_get, slice_set, sum_by, max, unwrap_or, nat_lt}
 use Rattle.std.proofs.lemmas.List.Sums.{sum_by-cons}
 use Rattle.ca_model.specs.declared.values.EventAct.{EventAct}
 use Rattle.ca_model.specs.declared.values.EventAct.TheVariants as act
 use Rattle.ca_model.specs.FrameCounts as counted
+use Rattle.ca_model.proofs.Law.{one_of}
 use Rattle.ca_shared.specs.declared.threads.Depth.{Depth}
 use Rattle.ca_shared.specs.declared.threads.Progress.{Progress}
 use Rattle.ca_shared.specs.Kept.{depth_of, kept_of, most, noted, noted_at}
@@ -22,19 +23,12 @@ noted_is (p ∷ ps) (suc t) a place x d lt is deep = ap (λ l. p ∷ l) (noted_i
 pub noted_sum : (f : Progress → ℕ) (ps : List Progress) (t : ℕ) (a : EventAct) (place : ℕ) (x : Progress) → slice_get ps t ≡ Some x → sum_by f (noted_at ps t a place) + f x ≡ sum_by f ps + f (noted x a place)
 noted_sum f [] t a place x at = absurd cc
 noted_sum f (p ∷ ps) zero a place x at =
-    let same : p ≡ x = some_is p x at in
+    let same : p ≡ x = one_of p x at in
     let one : sum_by f (noted p a place ∷ ps) ≡ f (noted p a place) + sum_by f ps = sum_by-cons f (noted p a place) ps in
     let two : sum_by f (p ∷ ps) ≡ f p + sum_by f ps = sum_by-cons f p ps in
     let three : f p ≡ f x = ap f same in
     let four : f (noted p a place) ≡ f (noted x a place) = ap (λ (y : Progress). f (noted y a place)) same in
     omega (arith, one, two, three, four)
-  where
-    some_is : (p x : Progress) → ◌≡◌ {A = Option Progress} (Some p) (Some x) → p ≡ x
-    some_is p x e = ap (λ o. or_value p o) e
-      where
-        or_value : Progress → Option Progress → Progress
-        or_value d None = d
-        or_value d (Some y) = y
 noted_sum f (p ∷ ps) (suc t) a place x at =
     let rest : sum_by f (noted_at ps t a place) + f x ≡ sum_by f ps + f (noted x a place) = noted_sum f ps t a place x at in
     let one : sum_by f (p ∷ noted_at ps t a place) ≡ f p + sum_by f (noted_at ps t a place) = sum_by-cons f p (noted_at ps t a place) in
@@ -52,6 +46,7 @@ in_sum f (p ∷ ps) zero x at =
     value : Option Progress → ℕ
     value None = f p
     value (Some y) = f y
+
     or_same : ◌≡◌ {A = Option Progress} (Some p) (Some x) → f p ≡ f x
     or_same e = ap value e
 in_sum f (p ∷ ps) (suc t) x at =

@@ -1,12 +1,12 @@
 -- Things that are given back one after another, by blocks and by mutexes.
-use Rattle.std.proofs.Common.{◌≡◌, ◌<◌, ℕ, zero, suc, Bool, true, false, cond, List, [], ◌∷◌, Option, Some, None, refl, sym, ap, ◌∙◌, subst, take}
+use Rattle.std.proofs.Common.{◌≡◌, ◌<◌, ℕ, zero, suc, Bool, true, false, List, [], ◌∷◌, Option, Some, None, refl, sym, ap, ◌∙◌, take}
 use Rattle.std.specs.Prelude.{slice_get, nat_lt, ◌==◌, if◌then◌else◌}
 use Rattle.std.specs.FinMap as map
 use Rattle.std.proofs.lemmas.Bool.{cond-true, cond-false, lt-ltb, ltb-true, eq-eqb, eqb-true, false_from_ne_true}
 use Rattle.ca_tree.specs.declared.numbers.MutexId.{MutexId}
 use Rattle.ca_model.specs.declared.values.Given.{Given}
 use Rattle.ca_model.specs.declared.values.Given.TheVariants as given
-use Rattle.ca_model.specs.Shared.{Shared, Blocks, Block, give, give_all, IsHeapStart}
+use Rattle.ca_model.specs.Shared.{Shared, Blocks, give, give_all, IsHeapStart}
 use Rattle.ca_model.specs.ComingEntries.{is_heap}
 use Rattle.ca_model.proofs.Retries.{heap_is}
 use Rattle.ca_memory.specs.Zeros.{start_of}
@@ -14,6 +14,7 @@ use Rattle.ca_memory.specs.Mutexes.{Mutexes}
 use Rattle.ca_memory.specs.GivenBack.{IsBlockHeld, IsMutexHeld, AreBlocksHeld, AreMutexesHeld, IsFirstNoBlock, IsFirstNoMutex, blocks_without, owners_without, blocks_without_all, owners_without_all}
 use Rattle.ca_memory.proofs.Hiding.{held_so}
 use Rattle.ca_memory.proofs.Lending.{same_count}
+use Rattle.ca_model.proofs.Law.{one_of}
 use Rattle.ca_shared.specs.declared.refusals.Illegal.{Illegal}
 use Rattle.ca_shared.specs.declared.refusals.Illegal.TheVariants as no
 use Rattle.ca_shared.specs.declared.phase.Phase.{Phase}
@@ -52,15 +53,8 @@ module _ (output : List ℕ) (threads : List Progress) (p : Phase) (t : ℕ) whe
       → of_thing (S (blocks_without_all b (take k gs)) (owners_without_all o (take k gs))) t g ≡ Some why → of_things (S b o) t gs ≡ Some why
   first b o [] k g why at blocks mutexes is = absurd cc
   first b o (h ∷ gs) zero g why at blocks mutexes is =
-      let same : h ≡ g = some_is h g at in
+      let same : h ≡ g = one_of h g at in
       ap (λ x. next x (of_things (give (S b o) h) t gs)) (ap (of_thing (S b o) t) same ∙ is)
-    where
-      some_is : (h g : Given) → ◌≡◌ {A = Option Given} (Some h) (Some g) → h ≡ g
-      some_is h g e = ap (λ o. or_value h o) e
-        where
-          or_value : Given → Option Given → Given
-          or_value d None = d
-          or_value d (Some x) = x
   first b o (h ∷ gs) (suc k) g why at blocks mutexes is =
       ap (λ x. next x (of_things (give (S b o) h) t gs)) (held_passes b o h blocks.0 mutexes.0)
       ∙ (ap (λ s. of_things s t gs) (gives b o h) ∙ first (blocks_without b h) (owners_without o h) gs k g why at blocks.1 mutexes.1 is)
@@ -122,6 +116,7 @@ module _ (output : List ℕ) (threads : List Progress) (p : Phase) (t : ℕ) whe
           passed : (q : Bool) (why : Illegal) → (if q then None else Some why) ≡ None → q ≡ true
           passed true why e = refl
           passed false why e = absurd cc
+
       by_test : (q : Bool) → nat_lt m.0 o.count ≡ q → (if q then of_owner t (map.get o.owners m.0) else Some (no.NoMutex o.count)) ≡ None → (m.0 < o.count) × (map.get o.owners m.0 ≡ Some t)
       by_test true e h = (ltb-true m.0 o.count e, by_owner (map.get o.owners m.0) h)
       by_test false e h = absurd cc

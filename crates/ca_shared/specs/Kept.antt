@@ -1,5 +1,5 @@
 -- The shared state that the kept parts are, and the counts that stand beside them.
-use Rattle.std.specs.Prelude.{◌≡◌, ◌≤◌, ℕ, zero, suc, true, false, ◌+◌, ◌++◌, max, cond, List, [], ◌∷◌, length, sum_by, Option, Some, None, unwrap_or, slice_get}
+use Rattle.std.specs.Prelude.{◌≡◌, ◌≤◌, ℕ, zero, suc, true, false, ◌+◌, ◌++◌, max, cond, List, [], ◌∷◌, length, sum_by, Some, None, unwrap_or, slice_get}
 use Rattle.std.specs.Ordering.{nat_cmp}
 use Rattle.std.specs.FinSet as set
 use Rattle.ca_model.specs.declared.tree.GlobalStart.{GlobalStart}

@@ -1,5 +1,5 @@
 -- Why a shared state forbids an entry: the first reason that holds.
-use Rattle.std.specs.Prelude.{ℕ, ℤ, pos, Bool, true, false, ◌&&◌, nat_lt, nat_le, ◌+◌, ◌^◌, ◌==◌, if◌then◌else◌, List, [], ◌∷◌, Option, Some, None}
+use Rattle.std.specs.Prelude.{ℕ, ℤ, pos, Bool, false, ◌&&◌, nat_lt, nat_le, ◌+◌, ◌^◌, ◌==◌, if◌then◌else◌, List, [], ◌∷◌, Option, Some, None}
 use Rattle.std.specs.Ordering.{int_eq}
 use Rattle.std.specs.FinMap as map
 use Rattle.std.specs.FinSet as set
@@ -16,7 +16,6 @@ use Rattle.ca_model.specs.Arith.{same}
 use Rattle.ca_model.specs.Shared.{Blocks, Block, Shared, Phase, Open, Finished, Failed, cell, live_cells, give}
 use Rattle.ca_model.specs.ComingEntries.{is_heap, can_free}
 use Rattle.ca_memory.specs.Zeros.{start_of}
-use Rattle.ca_memory.specs.declared.memory.Bad.{Bad}
 use Rattle.ca_shared.specs.declared.refusals.Illegal.{Illegal}
 use Rattle.ca_shared.specs.declared.refusals.Illegal.TheVariants as no
 

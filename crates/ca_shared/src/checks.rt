@@ -9,6 +9,7 @@ ghost use Rattle.ca_memory.specs.Zeros.{start_of};
 ghost use Rattle.ca_shared.specs.Refusals as refusals;
 ghost use Rattle.ca_shared.specs.Refusals.{no_mutex};
 ghost use Rattle.ca_shared.specs.Kept.{shared_of, ended_from};
+ghost use Rattle.ca_shared.specs.Legal.{HasNumber, IsNumbered};
 
 use crate::phase::Phase;
 use crate::refusals::Illegal;
@@ -80,7 +81,8 @@ fn of_unlock(owners: &Owners, m: MutexId, t: u32) -> Option<Illegal>
 }
 
 fn of_malloc(memory: &Memory, cells: i64, at: Value) -> Option<Illegal>
-    ensures { result ≡ refusals.of_malloc memory.now cells at }
+    ensures why { result ≡ refusals.of_malloc memory.now cells at }
+    ensures numbered { HasNumber at }
 {
     let a = match at {
         Value::Num(0) => return None,
@@ -152,12 +154,7 @@ fn no_block(block: u32) -> Illegal
 }
 
 // The first thing of a list that can't be given back.
-fn of_things(
-    memory: &mut Memory,
-    owners: &mut Owners,
-    t: u32,
-    things: &[Given],
-) -> Option<Illegal>
+fn of_things(memory: &mut Memory, owners: &mut Owners, t: u32, things: &[Given]) -> Option<Illegal>
     ensures memory { memory.new ≡ memory.old }
     ensures owners { owners.new ≡ owners.old }
     ensures why { (output : List ℕ) (threads : List Progress) (p : Phase) →
@@ -188,6 +185,7 @@ fn of_act(
     ensures owners { owners.new ≡ owners.old }
     ensures why { (output : List ℕ) (p : Phase) →
         result ≡ refusals.of_act (shared_of memory.old owners.old output threads.now p) t act.now }
+    ensures numbered { IsNumbered act.now }
 {
     match act {
         EventAct::Read { at, value } => of_read(memory, *at, *value),
@@ -222,6 +220,7 @@ pub(crate) fn refusal(
     ensures owners { owners.new ≡ owners.old }
     ensures why { (output : List ℕ) →
         result ≡ refusals.refusal (shared_of memory.old owners.old output threads.now phase) event.now }
+    ensures numbered { result ≡ None → IsNumbered event.now.act }
 {
     if phase != Phase::Open {
         return Some(Illegal::RunEnded);

@@ -83,7 +83,13 @@ fn made(act: &EventAct) -> u32
 }
 
 /// Notes the entry of a thread, which is the last of so many: its frames, those of all threads, and its place.
-pub(crate) fn note(threads: &mut Vec<Progress>, frames: &mut u32, t: u32, act: &EventAct, place: u32)
+pub(crate) fn note(
+    threads: &mut Vec<Progress>,
+    frames: &mut u32,
+    t: u32,
+    act: &EventAct,
+    place: u32,
+)
     requires there { t < length threads.old.items }
     requires counted { frames.old + made act.now ≡ sum_by (λ (x : Kept). x.depth.now) threads.old.items }
     requires fits { sum_by most threads.old.items < 4294967295 }

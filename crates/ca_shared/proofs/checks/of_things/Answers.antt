@@ -1,4 +1,4 @@
-use Rattle.std.proofs.Common.{Some, None, sym, ap, ◌∙◌}
+use Rattle.std.proofs.Common.{Some, sym, ap, ◌∙◌}
 use Rattle.ca_memory.specs.Mutexes.{Mutexes}
 use Rattle.ca_shared.specs.Refusals.{no_mutex}
 use Rattle.ca_shared.proofs.Things.{passes, is_block, is_mutex, is_mutex_before}

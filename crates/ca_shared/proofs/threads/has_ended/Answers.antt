@@ -1,4 +1,4 @@
-use Rattle.std.proofs.Common.{sym, ap, ◌∙◌}
+use Rattle.std.proofs.Common.{sym}
 use Rattle.std.proofs.lemmas.Option.{slice_get-get_or}
 use Rattle.ca_shared.proofs.Ended.{flag_is}
 use Rattle.ca_shared.proofs.threads.has_ended.Goals as goal

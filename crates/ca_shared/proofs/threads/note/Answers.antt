@@ -1,9 +1,9 @@
-use Rattle.std.proofs.Common.{◌≡◌, ◌≤◌, ◌<◌, ◌+◌, ◌-◌, ◌^◌, refl, Some, length, arith, sym, ap, ◌∙◌}
-use Rattle.std.specs.Prelude.{sum_by, slice_get}
-use Rattle.std.proofs.lemmas.Option.{slice_get-get_or, slice_get_read}
+use Rattle.std.proofs.Common.{◌≡◌, refl, Some, length, arith, ap}
+use Rattle.std.specs.Prelude.{slice_get}
+use Rattle.std.proofs.lemmas.Option.{slice_get_read}
 use Rattle.ca_shared.specs.declared.threads.Progress.{Progress}
-use Rattle.ca_shared.specs.Kept.{depth_of, most, made, noted, noted_at}
-use Rattle.ca_shared.proofs.Noting.{noted_is, noted_sum, in_sum, now_below, one_deeper}
+use Rattle.ca_shared.specs.Kept.{most, noted, noted_at}
+use Rattle.ca_shared.proofs.Noting.{noted_is, noted_sum, now_below, one_deeper}
 use Rattle.ca_shared.proofs.threads.note.Goals as goal
 
 pub overflow_add-frames : goal.overflow_add-frames
