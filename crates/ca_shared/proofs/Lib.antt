@@ -5,3 +5,4 @@ pub mod Noting
 pub mod Legality
 pub mod Appending
 pub mod Openings
+pub mod Crossing

@@ -1,9 +1,11 @@
 -- Equal lists of globals.
-use Rattle.std.proofs.Common.{◌≡◌, ℕ, Bool, true, List, [], ◌∷◌, refl, sym, ap, ◌∙◌}
-use Rattle.std.specs.Prelude.{◌&&◌, ◌==◌, ◌↔◌}
+use Rattle.std.proofs.Common.{◌≡◌, ◌≤◌, ◌+◌, arith, ℕ, Bool, true, List, [], ◌∷◌, refl, sym, ap, ◌∙◌}
+use Rattle.std.specs.Prelude.{sum_by, All, ◌&&◌, ◌==◌, ◌↔◌}
 use Rattle.std.specs.Bool.{IsTrue}
 use Rattle.std.proofs.lemmas.Bool.{and_parts, and_from, eqb-true, eq-eqb}
 use lib.Pointwise.{pointwise}
+use Rattle.std.proofs.lemmas.List.Sums.{sum_by-cons}
+use Rattle.std.proofs.lemmas.List.Elements.{All-nil, All-cons, All-weaker}
 use Rattle.ca_model.specs.declared.tree.GlobalStart.{GlobalStart}
 use Rattle.ca_model.specs.declared.values.Value.{Value}
 use Rattle.ca_model.specs.declared.values.Value.TheVariants as v
@@ -55,3 +57,13 @@ opened_so h tr xs gs ys m n r is same count told = (
   ),
   λ both. told ∙ (ap (λ l. pointwise eq l ys) (same ∙ (ap (λ (k : History). k.globals) is ∙ both.0)) ∙ list_self ys),
 )
+
+-- globals that have few cells together have few each
+pub few_each : (gs : List GlobalStart) (n : ℕ) → sum_by (λ (g : GlobalStart). g.cells) gs ≤ n → All (λ (g : GlobalStart). g.cells ≤ n) gs
+few_each [] n h = All-nil (λ (g : GlobalStart). g.cells ≤ n)
+few_each (g ∷ gs) n h =
+    let sum : sum_by (λ (g : GlobalStart). g.cells) (g ∷ gs) ≡ g.cells + sum_by (λ (g : GlobalStart). g.cells) gs = sum_by-cons (λ (g : GlobalStart). g.cells) g gs in
+    All-cons (λ (g : GlobalStart). g.cells ≤ n) g gs (omega (arith, sum, h)) (few_each gs n (omega (arith, sum, h)))
+
+pub fewer_each : (gs : List GlobalStart) (n m : ℕ) → n ≤ m → All (λ (g : GlobalStart). g.cells ≤ n) gs → All (λ (g : GlobalStart). g.cells ≤ m) gs
+fewer_each gs n m le h = All-weaker (λ (g : GlobalStart). g.cells ≤ n) (λ (g : GlobalStart). g.cells ≤ m) (λ g k. omega (arith, le, k)) gs h

@@ -12,4 +12,7 @@ mod threads;
 pub use laws::{an_entry_is_legal_where_nothing_refuses_it, legal_entries_keep_numbers};
 pub use phase::Phase;
 pub use refusals::{AppendNo, Illegal};
-pub use shared::Shared;
+pub use shared::{Shared, shared_states_cross_threads};
+
+#[cfg(test)]
+mod tests;

@@ -18,7 +18,7 @@ use crate::refusals::AppendNo;
 use crate::threads::{Depth, Progress, has_ended, note};
 use crate::{checks, effects};
 use ca_memory::{Memory, Owners};
-use ca_model::{Event, GlobalStart};
+use ca_model::{Checked, Event, GlobalStart, typed_programs_are_well_formed};
 use ca_tree::NoMemory;
 use std::alloc::Global;
 use std::marker::Model;
@@ -53,6 +53,15 @@ impl Model for Shared {
 }
 
 impl Shared {
+    /// The opening of a run of a source.
+    pub fn start(alloc: Global, checked: &Checked) -> Result<Shared, NoMemory>
+        ensures { IfOk result (λ s. s ≡ record { globals = checked.now.typed.globals; mutexes = checked.now.typed.mutexes; trace = [] }) }
+    {
+        let _program = checked.program();
+        typed_programs_are_well_formed();
+        Shared::open(alloc, checked.globals(), checked.mutexes())
+    }
+
     /// The opening of a run over these globals and so many mutexes: the globals have their values, no mutex is owned, and
     /// there is one thread.
     pub fn open(alloc: Global, globals: &[GlobalStart], mutexes: u32) -> Result<Shared, NoMemory>
@@ -205,4 +214,11 @@ impl Shared {
     {
         self.owners.count() == mutexes && self.globals.as_slice() == globals
     }
+}
+
+fn crosses<T: Send + Sync>() {}
+
+/// A shared state may be moved to other threads, and shared with them.
+pub fn shared_states_cross_threads() {
+    crosses::<Shared>();
 }
