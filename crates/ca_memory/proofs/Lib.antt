@@ -3,3 +3,5 @@ pub mod Counts
 pub mod OwnerTables
 pub mod Near
 pub mod Globals
+pub mod Hiding
+pub mod Lending

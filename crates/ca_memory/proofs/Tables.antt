@@ -72,7 +72,7 @@ pub put_there : (m : Blocks) (k : ℕ) (h : Bool) (xs : List Value) (z : ℤ) (n
     → with_cell m (record { block = k; offset = z }) x ≡ finite.insert m k (record { heap = h; live = true; cells = slice_set xs n x })
 put_there m k h xs z n x e at = ap (λ o. insert_if m k (put_cell o z x)) e ∙ ap (λ y. insert_if m k (put_cell (Some (record { heap = h; live = true; cells = xs })) y x)) at
 
-abbrev number_of : Value → ℕ
+abbrev pub number_of : Value → ℕ
 number_of (v.Num n) = 0
 number_of (v.Addr a) = a.block
 

@@ -1,6 +1,6 @@
 //! The table of blocks.
 
-ghost use Rattle.std.specs.Prelude.{◌≡◌, ◌↔◌, IsTrue, ◌<◌, ◌≤◌, ℕ, length, pos, ◌+ℤ◌, Some, None, IfSome, IfNone, OnSome, is_some, IsSome, slice_get, option_map, replicate, slice_set, List, IfOk, OnOk, OnErr, true};
+ghost use Rattle.std.specs.Prelude.{◌≡◌, ◌↔◌, IsTrue, ◌<◌, ◌≤◌, ℕ, length, pos, ◌+ℤ◌, Some, None, IfSome, IfNone, OnSome, is_some, IsSome, slice_get, option_map, replicate, slice_set, List, IfOk, OnOk, OnErr, true, false, take};
 ghost use Rattle.ca_model.specs.Arith.{null};
 ghost use Rattle.ca_model.specs.declared.values.Value.{Value};
 ghost use Rattle.ca_model.specs.Runner.{IsLeastUnused};
@@ -9,13 +9,23 @@ ghost use Rattle.std.specs.FinMap as finite;
 ghost use Rattle.ca_model.specs.Shared.{Block, live_block, cell, with_cell, freed, IsHeapStart};
 ghost use Rattle.ca_memory.specs.Kept.{blocks_of};
 ghost use Rattle.ca_memory.specs.Zeros.{start_of, global_block};
+ghost use Rattle.ca_memory.specs.GivenBack.{IsBlockHeld, AreBlocksHeld, IsFirstNoBlock};
+ghost use Rattle.ca_memory.specs.Hidden.{mark, mark_thing, hidden, shown, AreHidden};
+ghost use Rattle.ca_model.specs.declared.values.Given.{Given as Thing};
 ghost use Rattle.ca_model.specs.Opening.{globals_from};
 
-use ca_model::{Addr, GlobalStart, Value};
+use ca_model::{Addr, Given, GlobalStart, Value};
 use ca_tree::NoMemory;
 use std::alloc::Global;
 use std::collections::BTreeMap;
 use std::snapshot::Snapshot;
+
+/// A thing of a list that is a block which can't be given back when its turn comes: its place, and its number.
+#[derive(Clone, Copy, Debug, PartialEq, Eq)]
+pub struct BlockNotHeld {
+    pub place: usize,
+    pub block: u32,
+}
 
 // A block: whether `malloc` made it, and its cells.
 #[derive(Drop)]
@@ -130,6 +140,103 @@ pub(crate) fn end(table: &mut Table, block: u32) -> Option<usize>
     let was = Snapshot::of(cells);
     slot.cells = Cells::Dead(was);
     Some(count)
+}
+
+// Marks a live block of the heap as none of the heap.
+fn hide(table: &mut Table, block: u32) -> bool
+    ensures hidden { OnTrue result (IsHeapStart (blocks_of table.old.entries) (start_of block)
+        × (blocks_of table.new.entries ≡ mark false (blocks_of table.old.entries) block)) }
+    ensures gone { OnFalse result ((IsHeapStart (blocks_of table.old.entries) (start_of block) → ⊥) × (table.new.entries ≡ table.old.entries)) }
+{
+    let Some(slot) = table.get_mut(&block) else {
+        return false;
+    };
+    let heap = slot.heap;
+    if !heap {
+        return false;
+    }
+    let Cells::Live(_) = &slot.cells else {
+        return false;
+    };
+    slot.heap = false;
+    true
+}
+
+// Marks a block as one of the heap.
+fn show(table: &mut Table, block: u32)
+    ensures { blocks_of table.new.entries ≡ mark true (blocks_of table.old.entries) block }
+{
+    let Some(slot) = table.get_mut(&block) else {
+        return;
+    };
+    slot.heap = true;
+}
+
+fn hide_thing(table: &mut Table, thing: Given) -> bool
+    ensures hidden { OnTrue result (IsBlockHeld (blocks_of table.old.entries) thing
+        × (blocks_of table.new.entries ≡ mark_thing false (blocks_of table.old.entries) thing)) }
+    ensures gone { OnFalse result ((IsBlockHeld (blocks_of table.old.entries) thing → ⊥) × (table.new.entries ≡ table.old.entries)) }
+{
+    match thing {
+        Given::Mutex(_) => true,
+        Given::Block(block) => hide(table, block),
+    }
+}
+
+fn show_thing(table: &mut Table, thing: Given)
+    ensures { blocks_of table.new.entries ≡ mark_thing true (blocks_of table.old.entries) thing }
+{
+    match thing {
+        Given::Mutex(_) => {}
+        Given::Block(block) => show(table, block),
+    }
+}
+
+// Hides the blocks of a list up to the first that is no live block of the heap, and gives their number.
+fn hide_all(table: &mut Table, things: &[Given]) -> usize
+    ensures within { result ≤ length things.now }
+    ensures were { AreHidden (blocks_of table.old.entries) (take result things.now) }
+    ensures hidden { blocks_of table.new.entries ≡ hidden (blocks_of table.old.entries) (take result things.now) }
+    ensures first { (g : Thing) → slice_get things.now result ≡ Some g → IsBlockHeld (blocks_of table.new.entries) g → ⊥ }
+{
+    let mut index = 0usize;
+    'things: while index < things.len() {
+        let thing = things[index];
+        if !hide_thing(table, thing) {
+            return index;
+        }
+        index += 1;
+    }
+    index
+}
+
+// Shows the blocks of a list again, the last one first.
+fn show_all(table: &mut Table, things: &[Given])
+    ensures { blocks_of table.new.entries ≡ shown (blocks_of table.old.entries) things.now }
+{
+    let mut left = things.len();
+    'things: while left > 0 {
+        left -= 1;
+        let thing = things[left];
+        show_thing(table, thing);
+    }
+}
+
+// The place of the first thing that is a block which can't be given back when its turn comes.
+pub(crate) fn first_gone(table: &mut Table, things: &[Given]) -> Option<BlockNotHeld>
+    ensures same { blocks_of table.new.entries ≡ blocks_of table.old.entries }
+    ensures none { IfNone result (AreBlocksHeld (blocks_of table.old.entries) things.now) }
+    ensures first { IfSome result (λ n. IsFirstNoBlock (blocks_of table.old.entries) things.now n.place n.block) }
+{
+    let held = hide_all(table, things);
+    show_all(table, &things[..held]);
+    if held == things.len() {
+        return None;
+    }
+    match things[held] {
+        Given::Block(block) => Some(BlockNotHeld { place: held, block }),
+        Given::Mutex(_) => None,
+    }
 }
 
 // Cells that hold 0.

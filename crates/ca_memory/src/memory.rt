@@ -1,6 +1,6 @@
 //! Blocks of cells.
 
-ghost use Rattle.std.specs.Prelude.{All, map, ◌≡◌, ◌<◌, ◌≤◌, ◌+◌, ◌^◌, ◌↔◌, pos, true, false, replicate, length, Some, None, IfErr, OnOk, OnErr, IfOk, IsTrue, is_some, IsSome};
+ghost use Rattle.std.specs.Prelude.{All, map, ◌≡◌, ◌<◌, ◌≤◌, ◌+◌, ◌^◌, ◌↔◌, pos, true, false, replicate, length, Some, None, IfErr, OnOk, OnErr, IfOk, IfSome, IfNone, IsTrue, is_some, IsSome};
 ghost use Rattle.std.specs.Result.{result_ok};
 ghost use Rattle.std.specs.FinMap as finite;
 ghost use Rattle.ca_model.specs.Shared as shared;
@@ -8,11 +8,12 @@ ghost use Rattle.ca_model.specs.declared.tree.GlobalStart.{GlobalStart as Start}
 ghost use Rattle.ca_model.specs.Runner.{IsLeastUnused};
 ghost use Rattle.ca_memory.specs.Zeros.{stored, start_of, IsNear, zeroed};
 ghost use Rattle.ca_memory.specs.Kept.{most_cells};
+ghost use Rattle.ca_memory.specs.GivenBack.{AreBlocksHeld, IsFirstNoBlock};
 ghost use Rattle.ca_model.specs.Opening.{globals_from};
 
 use crate::blocks;
-use crate::blocks::Table;
-use ca_model::{Addr, GlobalStart, Value};
+use crate::blocks::{BlockNotHeld, Table};
+use ca_model::{Addr, Given, GlobalStart, Value};
 use ca_tree::NoMemory;
 use std::alloc::Global;
 use std::collections::BTreeMap;
@@ -170,6 +171,15 @@ impl Memory {
             Value::Num(n) => n == 0,
             Value::Addr(a) => a.offset == 0 && blocks::is_heap(&self.table, a.block),
         }
+    }
+
+    /// The first thing of a list that is a block which can't be released when its turn comes, where the things are given back one after another. It takes no memory, and the time of the list.
+    pub fn first_not_held(&mut self, things: &[Given]) -> Option<BlockNotHeld>
+        ensures same { self.new ≡ self.old }
+        ensures none { IfNone result (AreBlocksHeld self.old things.now) }
+        ensures first { IfSome result (λ n. IsFirstNoBlock self.old things.now n.place n.block) }
+    {
+        blocks::first_gone(&mut self.table, things)
     }
 
     /// Whether a block is live. It takes no memory.

@@ -1,6 +1,6 @@
 // Edges of memory and owners, worked by hand.
-use super::{Bad, Held, Memory, NotOwner, Owners};
-use ca_model::{Addr, GlobalStart, Value};
+use super::{Bad, BlockNotHeld, Held, Memory, MutexNotHeld, NotOwner, Owners};
+use ca_model::{Addr, Given, GlobalStart, Value};
 use ca_tree::MutexId;
 use std::alloc::Global;
 use std::process::Abort;
@@ -156,5 +156,51 @@ fn a_mutex_has_one_owner(rt: HostRuntime) -> Result<(), Fail> {
     );
     assert_eq!(rt; owners.give(first, 3), Ok(()));
     assert_eq!(rt; owners.owner(first), None);
+    Ok(())
+}
+
+#[test]
+fn the_first_thing_that_is_not_held_is_found(rt: HostRuntime) -> Result<(), Fail> {
+    let alloc = rt.alloc();
+    let mut memory = Memory::new(alloc, &[1])?;
+    let mut owners = Owners::new(alloc, 3)?;
+    allocate(&rt, alloc, &mut memory, 2, 1)?;
+    allocate(&rt, alloc, &mut memory, 1, 2)?;
+    assert_eq!(rt; owners.take(MutexId(0), 5), Ok(()));
+    assert_eq!(rt; owners.take(MutexId(1), 6), Ok(()));
+    let mutex = |number| Given::Mutex(MutexId(number));
+    let block = Given::Block;
+    for (things, no_block, no_mutex) in [
+        ([mutex(0), block(1), block(2)], None, None),
+        ([block(1), block(1), mutex(0)], Some((1, 1)), None),
+        (
+            [block(2), block(0), mutex(1)],
+            Some((1, 0)),
+            Some((2, 1, Some(6))),
+        ),
+        (
+            [mutex(0), block(3), mutex(0)],
+            Some((1, 3)),
+            Some((2, 0, None)),
+        ),
+        ([mutex(2), mutex(0), block(1)], None, Some((0, 2, None))),
+        ([mutex(0), mutex(3), block(1)], None, Some((1, 3, None))),
+    ] {
+        let found = no_block.map(|(place, block)| BlockNotHeld { place, block });
+        assert_eq!(rt; memory.first_not_held(&things), found, "{things:?}");
+        let found = no_mutex.map(|(place, number, owner)| MutexNotHeld {
+            place,
+            mutex: MutexId(number),
+            owner,
+        });
+        assert_eq!(rt; owners.first_not_held(5, &things), found, "{things:?}");
+    }
+    assert_eq!(rt; memory.release(at(1, 0)), Ok(()));
+    assert_eq!(rt;
+        memory.first_not_held(&[block(2), block(1)]),
+        Some(BlockNotHeld { place: 1, block: 1 })
+    );
+    assert_eq!(rt; owners.owner(MutexId(0)), Some(5));
+    assert_eq!(rt; memory.live_cells(), 1);
     Ok(())
 }

@@ -1,0 +1,5 @@
+pub mod Histories
+pub mod Frames
+pub mod Refusals
+pub mod Legal
+pub mod Kept
