@@ -147,8 +147,8 @@ impl Owners {
         }
     }
 
-    // The owner of a mutex, or none where there is no such mutex.
-    fn owner_if_there(&self, m: MutexId) -> Option<u32>
+    /// The owner of a mutex, or none where there is no such mutex. It takes no memory.
+    pub fn owner_if_there(&self, m: MutexId) -> Option<u32>
         ensures { result ≡ finite.get self.now.owners m.0 }
     {
         match self.owners.get(m.0 as usize) {

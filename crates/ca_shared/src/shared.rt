@@ -23,6 +23,9 @@ use ca_tree::NoMemory;
 use std::alloc::Global;
 use std::marker::Model;
 
+// More entries take more than any memory has; so the counts of entries have 32 bits.
+const MOST_ENTRIES: usize = 4_000_000_000;
+
 /// The state that all threads share: the memory, the owners of the mutexes, the output, and the threads. All of it is the
 /// effect of its trace, of which each entry was legal when it was made. Contracts see how it opened, and the trace.
 #[derive(Drop)]
@@ -94,7 +97,6 @@ impl Shared {
     /// Appends a legal entry, with its effect. `Illegal` comes exactly where the state forbids the entry; what the program
     /// of its thread may do isn't judged here. It takes the time of one look-up, and for a retry that of its list.
     pub fn append(&mut self, alloc: Global, event: Event) -> Result<(), AppendNo>
-        requires { length self.old.trace < 4000000000 }
         ensures ok { OnOk result (self.new ≡ appended self.old event) }
         ensures legal { OnOk result (IsLegal (state self.old) event.thread event.act) }
         ensures err { OnErr result (self.new ≡ self.old) }
@@ -112,10 +114,14 @@ impl Shared {
             Some(why) => return Err(AppendNo::Illegal(why)),
             None => {}
         }
+        let entries = self.trace.len();
+        if entries >= MOST_ENTRIES {
+            return Err(AppendNo::NoMemory);
+        }
         let Ok(()) = self.trace.reserve(1) else {
             return Err(AppendNo::NoMemory);
         };
-        let place = self.trace.len() as u32 + 1;
+        let place = entries as u32 + 1;
         let applied = effects::apply(
             alloc,
             &mut self.memory,

@@ -92,7 +92,6 @@ fn append(
     thread: u32,
     act: EventAct,
 ) -> Result<(), AppendNo> {
-    assert!(rt; shared.trace().len() < 4_000_000_000);
     shared.append(alloc, Event { thread, act })
 }
 

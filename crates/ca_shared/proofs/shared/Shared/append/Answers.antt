@@ -1,6 +1,5 @@
-use Rattle.std.proofs.Common.{◌≡◌, ◌<◌, ◌+◌, ◌++◌, ◌∷◌, [], length, arith, refl, sym, ap, ◌∙◌, subst}
+use Rattle.std.proofs.Common.{◌≡◌, ◌<◌, ◌+◌, ◌++◌, ◌∷◌, [], length, arith, refl, ap, ◌∙◌}
 use Rattle.std.proofs.lemmas.Grind.{common_steps}
-use Rattle.ca_shared.specs.Histories.{History}
 use Rattle.ca_shared.specs.Refusals.{of_act, refusal}
 use Rattle.ca_shared.specs.Kept.{shared_of}
 use Rattle.ca_shared.proofs.Legality.{act_if, there_if}
@@ -25,9 +24,9 @@ apply-applied-requires-clause-there c =
     let s = c.self.inside in
     let k = c.self.invariant in
     let e = c.args.event in
-    let short : length s.trace.items < 4000000000 = subst (λ (h : History). length h.trace < 4000000000) (sym c.self.view_is) c.requires in
-    let place = c.len.result + 1 in
-    let last : place ≡ length s.trace.items + 1 = let l = c.len.ensures in let r = c.in-Ok.ensures.len in let i = ap length c.in-Ok.ensures.items in grind (arith, common_steps) in
+    let short : length s.trace.items < 4000000000 = let l = c.len-entries.ensures in let i = c.if-entries-ge-MOST_ENTRIES.false in let k = s.trace.ok.0 in grind (arith, common_steps) in
+    let place = c.len-entries.result + 1 in
+    let last : place ≡ length s.trace.items + 1 = let l = c.len-entries.ensures in let k = s.trace.ok.0 in grind (arith, common_steps) in
     let none = no_refusal s.globals.items s.trace.items s.memory s.owners s.output.items s.threads.items s.frames s.phase k e short place last c.as_slice.result.now c.as_slice.ensures.value (c.in-None.ensures.why s.output.items) in
     there_if (shared_of s.memory s.owners s.output.items s.threads.items s.phase) e none
 
@@ -36,9 +35,9 @@ apply-applied-requires-clause-legal c =
     let s = c.self.inside in
     let k = c.self.invariant in
     let e = c.args.event in
-    let short : length s.trace.items < 4000000000 = subst (λ (h : History). length h.trace < 4000000000) (sym c.self.view_is) c.requires in
-    let place = c.len.result + 1 in
-    let last : place ≡ length s.trace.items + 1 = let l = c.len.ensures in let r = c.in-Ok.ensures.len in let i = ap length c.in-Ok.ensures.items in grind (arith, common_steps) in
+    let short : length s.trace.items < 4000000000 = let l = c.len-entries.ensures in let i = c.if-entries-ge-MOST_ENTRIES.false in let k = s.trace.ok.0 in grind (arith, common_steps) in
+    let place = c.len-entries.result + 1 in
+    let last : place ≡ length s.trace.items + 1 = let l = c.len-entries.ensures in let k = s.trace.ok.0 in grind (arith, common_steps) in
     let none = no_refusal s.globals.items s.trace.items s.memory s.owners s.output.items s.threads.items s.frames s.phase k e short place last c.as_slice.result.now c.as_slice.ensures.value (c.in-None.ensures.why s.output.items) in
     (λ i. of_act (shared_of (c.in-None.ensures.memory i) (c.in-None.ensures.owners i) s.output.items s.threads.items s.phase) e.thread e.act) ∙ act_if (shared_of s.memory s.owners s.output.items s.threads.items s.phase) e none
 
@@ -47,9 +46,9 @@ note-requires-clause-there c =
     let s = c.self.inside in
     let k = c.self.invariant in
     let e = c.args.event in
-    let short : length s.trace.items < 4000000000 = subst (λ (h : History). length h.trace < 4000000000) (sym c.self.view_is) c.requires in
-    let place = c.len.result + 1 in
-    let last : place ≡ length s.trace.items + 1 = let l = c.len.ensures in let r = c.in-Ok.ensures.len in let i = ap length c.in-Ok.ensures.items in grind (arith, common_steps) in
+    let short : length s.trace.items < 4000000000 = let l = c.len-entries.ensures in let i = c.if-entries-ge-MOST_ENTRIES.false in let k = s.trace.ok.0 in grind (arith, common_steps) in
+    let place = c.len-entries.result + 1 in
+    let last : place ≡ length s.trace.items + 1 = let l = c.len-entries.ensures in let k = s.trace.ok.0 in grind (arith, common_steps) in
     let none = no_refusal s.globals.items s.trace.items s.memory s.owners s.output.items s.threads.items s.frames s.phase k e short place last c.as_slice.result.now c.as_slice.ensures.value (c.in-None.ensures.why s.output.items) in
     there s.globals.items s.trace.items s.memory s.owners s.output.items s.threads.items s.frames s.phase k e short place last c.apply-applied.new.threads.items c.in-Ok-applied.ensures.threads (there_if (shared_of s.memory s.owners s.output.items s.threads.items s.phase) e none)
 
@@ -58,9 +57,9 @@ note-requires-clause-counted c =
     let s = c.self.inside in
     let k = c.self.invariant in
     let e = c.args.event in
-    let short : length s.trace.items < 4000000000 = subst (λ (h : History). length h.trace < 4000000000) (sym c.self.view_is) c.requires in
-    let place = c.len.result + 1 in
-    let last : place ≡ length s.trace.items + 1 = let l = c.len.ensures in let r = c.in-Ok.ensures.len in let i = ap length c.in-Ok.ensures.items in grind (arith, common_steps) in
+    let short : length s.trace.items < 4000000000 = let l = c.len-entries.ensures in let i = c.if-entries-ge-MOST_ENTRIES.false in let k = s.trace.ok.0 in grind (arith, common_steps) in
+    let place = c.len-entries.result + 1 in
+    let last : place ≡ length s.trace.items + 1 = let l = c.len-entries.ensures in let k = s.trace.ok.0 in grind (arith, common_steps) in
     counted_all s.globals.items s.trace.items s.memory s.owners s.output.items s.threads.items s.frames s.phase k e short place last c.apply-applied.new.threads.items c.in-Ok-applied.ensures.threads
 
 pub note-requires-clause-fits : goal.note-requires-clause-fits
@@ -68,9 +67,9 @@ note-requires-clause-fits c =
     let s = c.self.inside in
     let k = c.self.invariant in
     let e = c.args.event in
-    let short : length s.trace.items < 4000000000 = subst (λ (h : History). length h.trace < 4000000000) (sym c.self.view_is) c.requires in
-    let place = c.len.result + 1 in
-    let last : place ≡ length s.trace.items + 1 = let l = c.len.ensures in let r = c.in-Ok.ensures.len in let i = ap length c.in-Ok.ensures.items in grind (arith, common_steps) in
+    let short : length s.trace.items < 4000000000 = let l = c.len-entries.ensures in let i = c.if-entries-ge-MOST_ENTRIES.false in let k = s.trace.ok.0 in grind (arith, common_steps) in
+    let place = c.len-entries.result + 1 in
+    let last : place ≡ length s.trace.items + 1 = let l = c.len-entries.ensures in let k = s.trace.ok.0 in grind (arith, common_steps) in
     fit s.globals.items s.trace.items s.memory s.owners s.output.items s.threads.items s.frames s.phase k e short place last c.apply-applied.new.threads.items c.in-Ok-applied.ensures.threads
 
 pub invariant_of-self-2 : goal.invariant_of-self-2
@@ -78,9 +77,9 @@ invariant_of-self-2 c =
     let s = c.self.inside in
     let k = c.self.invariant in
     let e = c.args.event in
-    let short : length s.trace.items < 4000000000 = subst (λ (h : History). length h.trace < 4000000000) (sym c.self.view_is) c.requires in
-    let place = c.len.result + 1 in
-    let last : place ≡ length s.trace.items + 1 = let l = c.len.ensures in let r = c.in-Ok.ensures.len in let i = ap length c.in-Ok.ensures.items in grind (arith, common_steps) in
+    let short : length s.trace.items < 4000000000 = let l = c.len-entries.ensures in let i = c.if-entries-ge-MOST_ENTRIES.false in let k = s.trace.ok.0 in grind (arith, common_steps) in
+    let place = c.len-entries.result + 1 in
+    let last : place ≡ length s.trace.items + 1 = let l = c.len-entries.ensures in let k = s.trace.ok.0 in grind (arith, common_steps) in
     let none = no_refusal s.globals.items s.trace.items s.memory s.owners s.output.items s.threads.items s.frames s.phase k e short place last c.as_slice.result.now c.as_slice.ensures.value (c.in-None.ensures.why s.output.items) in
     (whole s.globals.items s.trace.items s.memory s.owners s.output.items s.threads.items s.frames s.phase k e short place last none (c.in-None.ensures.numbered refl) c.apply-applied.new.memory c.refusal-why.new.memory c.refusal-why.new.owners c.apply-applied.new.owners
     c.apply-applied.new.output.items c.apply-applied.new.threads.items c.note.new.threads.items c.apply-applied.new.phase c.note.new.frames c.push_reserved.new.self.items c.in-None.ensures.memory c.in-None.ensures.owners
@@ -91,9 +90,9 @@ returns-clause-ok c =
     let s = c.self.inside in
     let k = c.self.invariant in
     let e = c.args.event in
-    let short : length s.trace.items < 4000000000 = subst (λ (h : History). length h.trace < 4000000000) (sym c.self.view_is) c.requires in
-    let place = c.len.result + 1 in
-    let last : place ≡ length s.trace.items + 1 = let l = c.len.ensures in let r = c.in-Ok.ensures.len in let i = ap length c.in-Ok.ensures.items in grind (arith, common_steps) in
+    let short : length s.trace.items < 4000000000 = let l = c.len-entries.ensures in let i = c.if-entries-ge-MOST_ENTRIES.false in let k = s.trace.ok.0 in grind (arith, common_steps) in
+    let place = c.len-entries.result + 1 in
+    let last : place ≡ length s.trace.items + 1 = let l = c.len-entries.ensures in let k = s.trace.ok.0 in grind (arith, common_steps) in
     let none = no_refusal s.globals.items s.trace.items s.memory s.owners s.output.items s.threads.items s.frames s.phase k e short place last c.as_slice.result.now c.as_slice.ensures.value (c.in-None.ensures.why s.output.items) in
     let more = c.push_reserved.ensures.items ∙ ap (λ l. l ++ e ∷ []) c.in-Ok.ensures.items in
     one_more_of s.globals.items s.trace.items s.memory s.owners s.output.items s.threads.items s.frames s.phase k e short place last c.args.self.now c.apply-applied.new.owners c.push_reserved.new.self.items c.self.view_is
@@ -106,8 +105,8 @@ returns-clause-legal c =
     let s = c.self.inside in
     let k = c.self.invariant in
     let e = c.args.event in
-    let short : length s.trace.items < 4000000000 = subst (λ (h : History). length h.trace < 4000000000) (sym c.self.view_is) c.requires in
-    let place = c.len.result + 1 in
-    let last : place ≡ length s.trace.items + 1 = let l = c.len.ensures in let r = c.in-Ok.ensures.len in let i = ap length c.in-Ok.ensures.items in grind (arith, common_steps) in
+    let short : length s.trace.items < 4000000000 = let l = c.len-entries.ensures in let i = c.if-entries-ge-MOST_ENTRIES.false in let k = s.trace.ok.0 in grind (arith, common_steps) in
+    let place = c.len-entries.result + 1 in
+    let last : place ≡ length s.trace.items + 1 = let l = c.len-entries.ensures in let k = s.trace.ok.0 in grind (arith, common_steps) in
     let none = no_refusal s.globals.items s.trace.items s.memory s.owners s.output.items s.threads.items s.frames s.phase k e short place last c.as_slice.result.now c.as_slice.ensures.value (c.in-None.ensures.why s.output.items) in
     legal_of s.globals.items s.trace.items s.memory s.owners s.output.items s.threads.items s.frames s.phase k e short place last c.args.self.now c.self.view_is (c.in-None.ensures.numbered refl) none
