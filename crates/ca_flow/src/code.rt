@@ -1,5 +1,6 @@
 //! The code of a source under a plan.
 
+ghost use denote.Param.Send.{IsSend, IsSync};
 ghost use Rattle.std.specs.Prelude.{◌≡◌, ◌↔◌, ◌<◌, IsTrue, IfOk, Some, length, map, slice_get, Contains};
 ghost use Rattle.std.specs.List.Sorted.{IsStrictlyIncreasing};
 ghost use Rattle.ca_tree.specs.declared.numbers.ItemId.{ItemId};
@@ -9,6 +10,7 @@ ghost use Rattle.ca_model.specs.Plans.{Fits, IsItem, IsSite};
 ghost use Rattle.ca_model.specs.Sites.{all_items, items_of};
 ghost use Rattle.ca_model.specs.declared.tree.Function.{Function};
 ghost use Rattle.ca_model.specs.declared.tree.Item.{Item};
+ghost use Rattle.ca_flow.specs.contracts.code.Code as a_code;
 ghost use Rattle.ca_flow.specs.Lowerings.{AreGraphsOf, IsLowering, StandsAt};
 
 use crate::graph::Graph;
@@ -185,9 +187,8 @@ fn copied(alloc: Global, globals: &[GlobalStart]) -> Result<Vec<GlobalStart>, No
     Ok(copy)
 }
 
-fn crosses<T: Send + Sync>() {}
-
 /// Code may be moved to other threads, and shared with them.
-pub fn code_crosses_threads() {
-    crosses::<Code>();
-}
+pub fn code_crosses_threads()
+    ensures moves { IsSend a_code.the_row }
+    ensures is_shared { IsSync a_code.the_row }
+{}

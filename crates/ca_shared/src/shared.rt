@@ -1,11 +1,13 @@
 //! The shared state, which keeps the trace that made it.
 
+ghost use denote.Param.Send.{IsSend, IsSync};
 ghost use Rattle.std.specs.Prelude.{◌≡◌, ◌<◌, ◌≤◌, ◌^◌, ◌↔◌, All, [], length, Some, None, IfOk, IsTrue, OnOk, OnErr, true};
 ghost use Rattle.std.specs.FinSet as set;
 ghost use Rattle.ca_model.specs.Shared.{IsLegal};
 ghost use Rattle.ca_model.specs.Runner.{since_last};
 ghost use Rattle.ca_model.specs.declared.tree.GlobalStart.{GlobalStart as Start};
 ghost use Rattle.ca_memory.specs.Kept.{most_cells};
+ghost use Rattle.ca_shared.specs.contracts.shared.Shared as a_shared_state;
 ghost use Rattle.ca_shared.specs.Histories.{state, appended};
 ghost use Rattle.ca_shared.specs.Frames as counted;
 ghost use Rattle.ca_shared.specs.Kept.{phase_of};
@@ -222,9 +224,8 @@ impl Shared {
     }
 }
 
-fn crosses<T: Send + Sync>() {}
-
 /// A shared state may be moved to other threads, and shared with them.
-pub fn shared_states_cross_threads() {
-    crosses::<Shared>();
-}
+pub fn shared_states_cross_threads()
+    ensures moves { IsSend a_shared_state.the_row }
+    ensures is_shared { IsSync a_shared_state.the_row }
+{}
