@@ -3,7 +3,6 @@ use denote.Param.Send.{IsSend, IsSync, sendable}
 use Rattle.std.proofs.Crossing.{crosses}
 use Rattle.ca_flow.specs.contracts.instr.Instr as instr
 use Rattle.ca_flow.specs.contracts.instr.Step as step
-use Rattle.ca_flow.specs.contracts.links.Link as link
 use Rattle.ca_flow.specs.contracts.graph.Graph as graph
 use Rattle.ca_flow.specs.contracts.uses.Uses as uses
 use Rattle.ca_flow.specs.contracts.code.Code as code

@@ -2,14 +2,13 @@
 use Rattle.std.proofs.Common.{arith, ◌≡◌, ◌<◌, ◌≤◌, ◌+◌, ℕ, zero, suc, List, [], ◌∷◌, ◌++◌, length, Option, Some, None, refl, sym, ap, ◌∙◌, subst, inl, inr}
 use Rattle.std.specs.Prelude.{Contains, slice_get}
 use Rattle.std.proofs.lemmas.Option.{slice_get_read, slice_get_within, get_or_from_slice_get}
-use Rattle.std.proofs.lemmas.List.{length-append}
-use Rattle.std.proofs.lemmas.List.Elements.{Contains-append_left, Contains-append_right, Contains-append_cases}
+use Rattle.std.proofs.lemmas.List.Elements.{Contains-append_left, Contains-append_right}
 use Rattle.ca_model.specs.declared.tree.Item.{Item}
 use Rattle.ca_model.specs.declared.tree.Function.{Function}
 use Rattle.ca_model.specs.Codes.{Typed}
 use Rattle.ca_model.specs.Sites.{items_of, all_items, items_in_all}
 use Rattle.ca_model.specs.WellFormed.{IsWellFormed}
-use Rattle.ca_model.proofs.Members.{in_none, in_cons, in_one}
+use Rattle.ca_model.proofs.Members.{in_none, in_cons}
 use Rattle.ca_model.proofs.Steps.{get_left}
 use Rattle.ca_model.proofs.Composition.{get_right}
 use Rattle.ca_model.proofs.ApartItems.{AreApart, numbered_apart}

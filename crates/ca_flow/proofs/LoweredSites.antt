@@ -1,10 +1,9 @@
 -- Sites of a source, and nodes of its graphs that have them.
-use Rattle.std.proofs.Common.{arith, ◌≡◌, ℕ, zero, suc, ◌+◌, ◌<◌, ◌≤◌, List, [], ◌∷◌, length, Option, Some, None, refl, sym, ap, ◌∙◌, subst, inl, inr}
+use Rattle.std.proofs.Common.{arith, ◌≡◌, ℕ, zero, suc, ◌+◌, ◌<◌, ◌≤◌, List, [], ◌∷◌, length, Some, None, refl, sym, ap, ◌∙◌, subst, inl, inr}
 use Rattle.std.specs.Prelude.{Contains, slice_get, get_or, ◌⊎◌}
 use Rattle.std.proofs.lemmas.Option.{slice_get_within, get_or_from_slice_get}
 use Rattle.std.proofs.lemmas.List.Elements.{Contains-append_cases}
 use Rattle.ca_tree.specs.declared.numbers.FunId.{FunId}
-use Rattle.ca_tree.specs.declared.numbers.ItemId.{ItemId}
 use Rattle.ca_tree.specs.declared.numbers.SiteId.{SiteId}
 use Rattle.ca_model.specs.declared.plan.Plan.{Plan}
 use Rattle.ca_model.specs.declared.tree.Item.{Item}
@@ -17,11 +16,10 @@ use Rattle.ca_model.specs.WellFormed.{IsWellFormed}
 use Rattle.ca_model.proofs.Members.{in_none}
 use Rattle.ca_flow.specs.declared.instr.NodeId.{NodeId}
 use Rattle.ca_flow.specs.Graphs.{ControlFlow}
-use Rattle.ca_flow.specs.Lowerings.{AreGraphsOf, IsGraphUnder, IsMarked, IsSiteOf, HasSite, StandsAt, Lowering}
+use Rattle.ca_flow.specs.Lowerings.{AreGraphsOf, IsSiteOf, StandsAt}
 use Rattle.ca_flow.specs.Places.{HasSiteInOne, IsPlaceInOne, no_place}
 use Rattle.ca_flow.specs.Tables.{ArePlaces}
 use Rattle.ca_flow.proofs.FunctionItems.{found_in, of_function}
-use Rattle.ca_flow.proofs.SitePlaces.{same_there}
 use Rattle.ca_flow.proofs.SiteItems.{at_place, number_of_site, site_of_number}
 
 -- the function of an item, by its place

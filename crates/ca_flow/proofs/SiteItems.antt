@@ -1,15 +1,13 @@
 -- Sites and the items that they are of.
-use Rattle.std.proofs.Common.{arith, ◌≡◌, ℕ, zero, suc, ◌+◌, ◌-◌, ◌<◌, ◌≤◌, Bool, true, false, List, [], ◌∷◌, ◌++◌, length, Option, Some, None, refl, sym, ap, ◌∙◌, subst, inl, inr}
-use Rattle.std.specs.Prelude.{◌==◌, Contains, cond, slice_get}
+use Rattle.std.proofs.Common.{arith, ◌≡◌, ℕ, zero, suc, ◌+◌, ◌-◌, ◌<◌, ◌≤◌, List, [], ◌∷◌, ◌++◌, length, Option, Some, None, refl, sym, ap, ◌∙◌, subst, inl, inr}
+use Rattle.std.specs.Prelude.{Contains, cond, slice_get}
 use Rattle.std.proofs.lemmas.Bool.{eq-eqb, ne_eqb, cases_lt}
-use Rattle.std.proofs.lemmas.Option.{slice_get_within, slice_get-get_or}
-use Rattle.ca_tree.specs.declared.numbers.ItemId.{ItemId}
 use Rattle.ca_tree.specs.declared.numbers.SiteId.{SiteId}
 use Rattle.ca_model.specs.declared.plan.Plan.{Plan}
 use Rattle.ca_model.specs.declared.tree.Item.{Item}
 use Rattle.ca_model.specs.Codes.{Typed, code_of}
 use Rattle.ca_model.specs.Sites.{all_items, act_sites, first_from}
-use Rattle.ca_model.specs.Accesses.{Access, At_site, Named_load, Named_store, Allocates, Kind, Site, kinds, act_accesses, sites_after, sites_in, all_sites, numbered}
+use Rattle.ca_model.specs.Accesses.{Access, At_site, Named_load, Named_store, Allocates, Site, kinds, act_accesses, sites_after, sites_in, all_sites, numbered}
 use Rattle.ca_model.specs.Plans.{IsSite}
 use Rattle.ca_model.specs.WellFormed.{IsWellFormed}
 use Rattle.ca_model.proofs.Members.{at_head, at_tail}

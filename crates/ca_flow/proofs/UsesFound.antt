@@ -1,11 +1,10 @@
 -- What the uses in a source say of its items.
-use Rattle.std.proofs.Common.{arith, ◌≡◌, ℕ, zero, suc, ◌+◌, ◌-◌, ◌<◌, ◌≤◌, Bool, true, false, List, [], ◌∷◌, ◌++◌, map, length, replicate, Option, Some, None, refl, sym, ap, ◌∙◌, subst, inl, inr, append_assoc}
-use Rattle.std.specs.Prelude.{◌==◌, ◌||◌, ◌⊎◌, ◌↔◌, Contains, get_or, slice_get, slice_set, if◌then◌else◌, AllPairs}
-use Rattle.std.specs.List.{list_any}
+use Rattle.std.proofs.Common.{arith, ◌≡◌, ℕ, zero, suc, ◌+◌, ◌-◌, ◌<◌, Bool, true, false, List, [], ◌∷◌, ◌++◌, map, length, replicate, Some, refl, sym, ap, ◌∙◌, subst, inl, inr, append_assoc}
+use Rattle.std.specs.Prelude.{◌==◌, ◌||◌, ◌↔◌, Contains, get_or, slice_get, slice_set, if◌then◌else◌, AllPairs}
 use Rattle.std.specs.List.Sorted.{IsStrictlyIncreasing}
-use Rattle.std.proofs.lemmas.Bool.{eq-eqb, eqb-true, ne_eqb, eqb-false, cases_lt, or_cases, or_left, or_right}
+use Rattle.std.proofs.lemmas.Bool.{eq-eqb, eqb-true, eqb-false, cases_lt, or_cases, or_left, or_right}
 use Rattle.std.proofs.lemmas.List.{append-nil, get_or-replicate, length-replicate, get_or_append_left, get_or-append_right, length-append}
-use Rattle.std.proofs.lemmas.List.Elements.{Contains-append_left, Contains-append_right, Contains-append_cases, All-weaker, All-contains_itself}
+use Rattle.std.proofs.lemmas.List.Elements.{All-weaker, All-contains_itself}
 use Rattle.std.proofs.lemmas.List.Kept.{AllPairs-cons}
 use Rattle.ca_tree.specs.declared.numbers.FunId.{FunId}
 use Rattle.ca_tree.specs.declared.numbers.ItemId.{ItemId}
@@ -18,7 +17,7 @@ use Rattle.ca_model.specs.Paths.{Calls, Creates}
 use Rattle.ca_model.proofs.Members.{in_none, in_cons, at_head, at_tail}
 use Rattle.ca_model.proofs.Law.{length_set}
 use Rattle.ca_flow.specs.Tables.{row, longer, Uses, uses, with_calls, with_created, with_item, with_items, with_functions, uses_of}
-use Rattle.ca_flow.proofs.FunctionItems.{Numbered, number_within, found_in}
+use Rattle.ca_flow.proofs.FunctionItems.{Numbered, found_in}
 use Rattle.ca_flow.proofs.SiteItems.{get_first, get_second}
 use Rattle.ca_flow.proofs.RowTables.{longer_same}
 

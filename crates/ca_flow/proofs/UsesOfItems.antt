@@ -8,7 +8,7 @@ use Rattle.ca_model.specs.declared.tree.Stmt.{Stmt}
 use Rattle.ca_model.specs.declared.tree.Stmt.TheVariants as s
 use Rattle.ca_model.specs.Sites.{joined, items_in, items_in_all, items_of}
 use Rattle.ca_model.proofs.Equations.{items_out, items_block}
-use Rattle.ca_flow.specs.Tables.{Uses, with_item, with_items, with_functions}
+use Rattle.ca_flow.specs.Tables.{Uses, with_item, with_items}
 
 joined_items : (xs : List Stmt) → joined (map items_in xs) ≡ items_in_all xs
 joined_items [] = refl

@@ -1,14 +1,13 @@
 -- Graphs that stand for a source under a plan.
 use Rattle.std.specs.Prelude.{◌≡◌, ◌<◌, ◌≤◌, ◌+◌, ℕ, Bool, List, length, Option, Some, None, slice_get, Contains}
 use Rattle.ca_tree.specs.declared.numbers.FunId.{FunId}
-use Rattle.ca_tree.specs.declared.numbers.ItemId.{ItemId}
 use Rattle.ca_tree.specs.declared.numbers.SiteId.{SiteId}
 use Rattle.ca_model.specs.declared.plan.Plan.{Plan}
 use Rattle.ca_model.specs.declared.tree.Item.{Item}
 use Rattle.ca_model.specs.declared.tree.Function.{Function}
 use Rattle.ca_model.specs.Frames.{Code}
 use Rattle.ca_model.specs.Codes.{Typed, code_of}
-use Rattle.ca_model.specs.Sites.{all_items, items_of, act_sites}
+use Rattle.ca_model.specs.Sites.{items_of, act_sites}
 use Rattle.ca_model.specs.Accesses.{Site}
 use Rattle.ca_model.specs.Plans.{Fits, IsSite}
 use Rattle.ca_model.specs.WellFormed.{IsWellFormed}

@@ -1,19 +1,16 @@
 -- Tables that are kept beside graphs and code.
-use Rattle.std.specs.Prelude.{◌≡◌, ◌<◌, ◌+◌, ◌-◌, ◌==◌, ◌||◌, ℕ, Bool, true, false, List, [], ◌∷◌, ◌++◌, map, length, get_or, slice_set, slice_get, replicate, Some, if◌then◌else◌}
+use Rattle.std.specs.Prelude.{◌≡◌, ◌<◌, ◌+◌, ◌==◌, ℕ, Bool, true, false, List, [], ◌∷◌, ◌++◌, map, length, get_or, slice_set, slice_get, replicate, Some, if◌then◌else◌}
 use Rattle.std.specs.Global.{Vec}
 use Rattle.ca_tree.specs.declared.numbers.FunId.{FunId}
 use Rattle.ca_tree.specs.declared.numbers.ItemId.{ItemId}
-use Rattle.ca_tree.specs.declared.numbers.SiteId.{SiteId}
 use Rattle.ca_model.specs.declared.tree.Act.{Act}
 use Rattle.ca_model.specs.declared.tree.Act.TheVariants as act
 use Rattle.ca_model.specs.declared.tree.Item.{Item}
 use Rattle.ca_model.specs.declared.tree.Function.{Function}
 use Rattle.ca_model.specs.declared.tree.GlobalStart.{GlobalStart}
 use Rattle.ca_model.specs.Accesses.{all_sites}
-use Rattle.ca_model.specs.Sites.{items_of, all_items}
-use Rattle.ca_model.specs.Codes.{Typed}
+use Rattle.ca_model.specs.Sites.{items_of}
 use Rattle.ca_flow.specs.declared.instr.NodeId.{NodeId}
-use Rattle.ca_flow.specs.declared.instr.Links.{Links}
 use Rattle.ca_flow.specs.declared.instr.Step.{Step}
 use Rattle.ca_flow.specs.Graphs.{targets}
 use Rattle.ca_flow.specs.Lowerings.{Lowering, StandsAt}

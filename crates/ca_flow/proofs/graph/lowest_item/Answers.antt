@@ -1,4 +1,4 @@
-use Rattle.std.proofs.Common.{◌≡◌, ◌<◌, ◌≤◌, ◌+◌, ◌-◌, ℕ, suc, sym, ap, subst, ◌∙◌, lit<, arith}
+use Rattle.std.proofs.Common.{◌≡◌, ◌<◌, ◌-◌, suc, sym, ap, subst, ◌∙◌, lit<, arith}
 use Rattle.ca_flow.proofs.TypedSources.{well_formed}
 use Rattle.ca_flow.proofs.FunctionItems.{before, all_numbered, items_within, close_before}
 use Rattle.ca_flow.proofs.graph.lowest_item.Goals as goal

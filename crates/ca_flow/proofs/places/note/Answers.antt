@@ -1,4 +1,4 @@
-use Rattle.std.proofs.Common.{◌≡◌, ◌+◌, ◌<◌, ℕ, Some, arith, ap, ◌∙◌, sym, subst, length}
+use Rattle.std.proofs.Common.{◌≡◌, ◌+◌, ◌<◌, ℕ, Some, arith, ◌∙◌, subst, length}
 use Rattle.std.specs.Prelude.{get_or}
 use Rattle.ca_flow.specs.Places.{no_place}
 use Rattle.ca_flow.specs.declared.instr.AtSite.{AtSite}

@@ -1,6 +1,5 @@
 use Rattle.std.proofs.Common.{◌≡◌, ◌+◌, ◌<◌, ℕ, arith, ◌∙◌, subst, length}
 use Rattle.std.specs.Prelude.{get_or, ◌⊎◌}
-use Rattle.ca_tree.specs.declared.numbers.FunId.{FunId}
 use Rattle.ca_flow.specs.Places.{no_place, IsPlace}
 use Rattle.ca_flow.specs.Lowerings.{HasSite}
 use Rattle.ca_flow.proofs.SitePlaces.{there, placed_on, all_placed}

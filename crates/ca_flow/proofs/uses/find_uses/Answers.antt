@@ -1,4 +1,4 @@
-use Rattle.std.proofs.Common.{◌≡◌, ◌<◌, ◌+◌, ◌∷◌, drop, ap, sym, ◌∙◌, length, subst, arith}
+use Rattle.std.proofs.Common.{◌≡◌, ◌<◌, ◌+◌, ◌∷◌, drop, ap, sym, ◌∙◌, length, arith}
 use Rattle.std.proofs.lemmas.Option.{get_or_from_slice_get}
 use Rattle.ca_flow.specs.Tables.{with_functions}
 use Rattle.ca_flow.proofs.UsesOfItems.{from_next}

@@ -1,4 +1,4 @@
-use Rattle.std.proofs.Common.{◌≡◌, ◌<◌, ℕ, List, length, map, sym, ap, subst, ◌∙◌, arith}
+use Rattle.std.proofs.Common.{◌≡◌, ◌<◌, length, sym, ap, subst, ◌∙◌, arith}
 use Rattle.std.specs.Prelude.{Contains, ◌↔◌}
 use Rattle.ca_tree.specs.declared.numbers.ItemId.{ItemId}
 use Rattle.ca_model.specs.declared.tree.Item.{Item}

@@ -1,6 +1,5 @@
-use Rattle.std.proofs.Common.{◌≡◌, ◌<◌, ◌≤◌, ◌+◌, ◌-◌, ℕ, List, length, Some, refl, sym, ap, subst, ◌∙◌, arith}
+use Rattle.std.proofs.Common.{◌≡◌, ◌+◌, ◌-◌, length, refl, sym, ap, subst, ◌∙◌, arith}
 use Rattle.std.specs.Prelude.{Contains, get_or, slice_get}
-use Rattle.std.proofs.lemmas.Option.{slice_get_read}
 use Rattle.ca_tree.specs.declared.numbers.FunId.{FunId}
 use Rattle.ca_tree.specs.declared.numbers.ItemId.{ItemId}
 use Rattle.ca_model.specs.declared.tree.Item.{Item}

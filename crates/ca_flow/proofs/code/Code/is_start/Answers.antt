@@ -1,10 +1,8 @@
-use Rattle.std.proofs.Common.{◌≡◌, ◌<◌, ℕ, List, length, Bool, true, false, Some, sym, ap, subst, ◌∙◌, arith, inl, inr}
-use Rattle.std.specs.Prelude.{Contains, get_or, slice_get, ◌↔◌, ◌⊎◌, IsTrue}
+use Rattle.std.proofs.Common.{◌≡◌, ◌<◌, ℕ, length, Bool, false, Some, sym, ap, subst, ◌∙◌, arith, inl, inr}
+use Rattle.std.specs.Prelude.{get_or, slice_get, ◌↔◌, IsTrue}
 use Rattle.ca_tree.specs.declared.numbers.FunId.{FunId}
-use Rattle.ca_model.specs.declared.tree.Item.{Item}
 use Rattle.ca_model.specs.declared.tree.Function.{Function}
 use Rattle.ca_model.specs.Codes.{Typed}
-use Rattle.ca_model.specs.Sites.{all_items}
 use Rattle.ca_model.specs.Paths.{Creates, BeginsThreads}
 use Rattle.ca_model.specs.WellFormed.{IsWellFormed}
 use Rattle.ca_flow.specs.Lowerings.{Lowering}

@@ -2,11 +2,10 @@ use Rattle.std.proofs.Common.{◌≡◌, ◌<◌, ◌≤◌, ◌+◌, ℕ, List,
 use Rattle.std.specs.Prelude.{get_or, ◌⊎◌}
 use Rattle.ca_tree.specs.declared.numbers.SiteId.{SiteId}
 use Rattle.ca_model.specs.declared.plan.Plan.{Plan}
-use Rattle.ca_model.specs.Codes.{Typed}
 use Rattle.ca_model.specs.typing.Sources.{Source}
 use Rattle.ca_model.specs.typing.Programs.{definitions}
 use Rattle.ca_model.specs.typing.Typing.{main_number}
-use Rattle.ca_flow.specs.Lowerings.{IsLowering, Lowering}
+use Rattle.ca_flow.specs.Lowerings.{IsLowering}
 use Rattle.ca_flow.specs.Places.{no_place, HasSiteInOne, IsPlaceInOne}
 use Rattle.ca_flow.specs.Tables.{HasTables, Uses}
 use Rattle.ca_flow.specs.Graphs.{ControlFlow}

@@ -1,6 +1,5 @@
-use Rattle.std.proofs.Common.{◌≡◌, ◌<◌, ◌≤◌, ◌+◌, ◌-◌, ℕ, length, sym, ap, subst, ◌∙◌, arith}
-use Rattle.ca_tree.specs.declared.numbers.SiteId.{SiteId}
-use Rattle.ca_model.specs.Accesses.{Site, all_sites}
+use Rattle.std.proofs.Common.{◌≡◌, ◌<◌, ◌+◌, ◌-◌, ℕ, length, sym, subst, arith}
+use Rattle.ca_model.specs.Accesses.{Site}
 use Rattle.ca_model.specs.Plans.{IsSite}
 use Rattle.ca_flow.specs.Lowerings.{Lowering, StandsAt}
 use Rattle.ca_flow.proofs.LoweredSites.{number_of}

@@ -1,8 +1,7 @@
-use Rattle.std.proofs.Common.{◌≡◌, ◌<◌, ◌≤◌, ◌+◌, ◌-◌, ℕ, length, Some, Option, None, refl, sym, ap, subst, ◌∙◌, arith}
-use Rattle.std.specs.Prelude.{Contains, min}
+use Rattle.std.proofs.Common.{◌≡◌, ◌<◌, ◌≤◌, ◌+◌, ◌-◌, ℕ, length, Some, Option, None, refl, sym, ap, ◌∙◌, arith}
+use Rattle.std.specs.Prelude.{min}
 use Rattle.ca_model.specs.declared.tree.Function.{Function}
-use Rattle.ca_model.specs.declared.tree.Item.{Item}
-use Rattle.ca_model.specs.Sites.{items_of, all_items}
+use Rattle.ca_model.specs.Sites.{all_items}
 use Rattle.ca_model.specs.Links.{first_item, links_of}
 use Rattle.ca_flow.specs.Linked.{linked}
 use Rattle.ca_flow.proofs.TypedSources.{well_formed, bounded}

@@ -1,7 +1,5 @@
 use Rattle.std.proofs.Common.{◌<◌, ap, ◌∙◌, sym, subst, length, arith}
-use Rattle.std.specs.Prelude.{slice_get}
 use Rattle.ca_flow.specs.Graphs.{times, successors}
-use Rattle.ca_flow.specs.Tables.{rows_of}
 use Rattle.ca_flow.proofs.RowTables.{row_read, rows_length}
 use Rattle.ca_flow.proofs.Neighbours.{listed_before}
 use Rattle.ca_flow.proofs.graph.Graph.predecessors.Goals as goal
