@@ -1,0 +1,4 @@
+pub mod Counted
+pub mod Scopes
+pub mod Lowered
+pub mod Building

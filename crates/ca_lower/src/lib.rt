@@ -1,0 +1,8 @@
+//! Lowering of typed sources to graphs.
+#![tactic(auto)]
+
+mod builder;
+mod counts;
+mod expressions;
+mod scopes;
+mod tables;

@@ -1,0 +1,103 @@
+//! What is lowered.
+
+ghost use Rattle.std.specs.Prelude.{◌≡◌, ◌+◌, ◌<◌, Contains};
+ghost use Rattle.ca_model.specs.Sites.{act_sites, items_of};
+ghost use Rattle.ca_lower.specs.Scopes.{IsInFunction, IsInItem};
+ghost use Rattle.ca_lower.specs.Building.{code_at, code_in, IsSiteMark, around};
+
+use crate::tables::Tables;
+use ca_flow::AtSite;
+use ca_model::{Function, Item};
+use ca_tree::{ItemId, SiteId};
+use std::marker::Model;
+
+/// A function of the source.
+#[derive(Drop)]
+pub(crate) struct InFunction<'a> {
+    tables: &'a Tables<'a>,
+    function: &'a Function,
+}
+
+impl<'a> Model for InFunction<'a> {
+    ghost use Rattle.ca_model.specs.contracts.tree.Stmt as stmt;
+    ghost use Rattle.ca_model.specs.contracts.tree.Exp as exp;
+    ghost use Rattle.ca_model.specs.contracts.tree.Place as place;
+    ghost use Rattle.std.specs.Coded.{codes};
+    ghost use Rattle.ca_lower.specs.Scopes as scopes;
+
+    ghost Value = { scopes.InFunction };
+
+    ghost coded = { Prim.hlevel (codes, stmt.the_row.coded, exp.the_row.coded, place.the_row.coded) };
+
+    ghost view = { λ s. record { source = s.tables.now.source; plan = s.tables.now.plan; function = s.function.now } };
+
+    ghost invariant = { λ s. scopes.IsInFunction (record { source = s.tables.now.source; plan = s.tables.now.plan; function = s.function.now }) };
+}
+
+/// An item of a function of the source.
+#[derive(Drop)]
+pub(crate) struct InItem<'a> {
+    tables: &'a Tables<'a>,
+    function: &'a Function,
+    item: &'a Item,
+}
+
+impl<'a> Model for InItem<'a> {
+    ghost use Rattle.ca_model.specs.contracts.tree.Stmt as stmt;
+    ghost use Rattle.ca_model.specs.contracts.tree.Exp as exp;
+    ghost use Rattle.ca_model.specs.contracts.tree.Place as place;
+    ghost use Rattle.std.specs.Coded.{codes};
+    ghost use Rattle.ca_lower.specs.Scopes as scopes;
+
+    ghost Value = { scopes.InItem };
+
+    ghost coded = { Prim.hlevel (codes, stmt.the_row.coded, exp.the_row.coded, place.the_row.coded) };
+
+    ghost view = { λ s. record { source = s.tables.now.source; plan = s.tables.now.plan; function = s.function.now; item = s.item.now } };
+
+    ghost invariant = { λ s. scopes.IsInItem (record { source = s.tables.now.source; plan = s.tables.now.plan; function = s.function.now; item = s.item.now }) };
+}
+
+impl<'a> InFunction<'a> {
+    pub(crate) fn new(tables: &'a Tables<'a>, function: &'a Function) -> InFunction<'a>
+        requires { Contains tables.now.source.functions function.now }
+        ensures { result ≡ record { source = tables.now.source; plan = tables.now.plan; function = function.now } }
+    {
+        InFunction { tables, function }
+    }
+
+    // An item of the function.
+    pub(crate) fn at(&self, item: &'a Item) -> InItem<'a>
+        requires { Contains (items_of self.now.function) item.now }
+        ensures { result ≡ record { source = self.now.source; plan = self.now.plan; function = self.now.function; item = item.now } }
+    {
+        InItem {
+            tables: self.tables,
+            function: self.function,
+            item,
+        }
+    }
+}
+
+impl<'a> InItem<'a> {
+    pub(crate) fn id(&self) -> ItemId
+        ensures value { result ≡ self.now.item.id }
+        ensures known { IsInItem self.now }
+    {
+        self.item.id
+    }
+
+    // Whether the plan has a site.
+    pub(crate) fn is_planned(&self, site: SiteId) -> bool
+        ensures { result ≡ (code_at self.now).planned site }
+    {
+        self.tables.is_planned(site)
+    }
+
+    // Whether the item acquires in the plan.
+    pub(crate) fn acquires(&self) -> bool
+        ensures { result ≡ (code_at self.now).acquires self.now.item.id }
+    {
+        self.tables.acquires(self.item.id)
+    }
+}
