@@ -6,3 +6,6 @@ pub mod CodeOfParts
 pub mod CodeOfControl
 pub mod Growing
 pub mod Added
+pub mod Within
+pub mod CodeOfActs
+pub mod ActsAdded

@@ -2,3 +2,4 @@ pub mod Counted
 pub mod Scopes
 pub mod Lowered
 pub mod Building
+pub mod Acts

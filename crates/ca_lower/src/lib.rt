@@ -1,6 +1,7 @@
 //! Lowering of typed sources to graphs.
 #![tactic(auto)]
 
+mod acts;
 mod builder;
 mod counts;
 mod expressions;

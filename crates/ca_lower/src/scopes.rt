@@ -1,13 +1,14 @@
 //! What is lowered.
 
-ghost use Rattle.std.specs.Prelude.{◌≡◌, ◌+◌, ◌<◌, Contains};
+ghost use Rattle.std.specs.Prelude.{◌≡◌, ◌≤◌, ◌+◌, ◌<◌, true, Contains};
 ghost use Rattle.ca_model.specs.Sites.{act_sites, items_of};
 ghost use Rattle.ca_lower.specs.Scopes.{IsInFunction, IsInItem};
+ghost use Rattle.ca_lower.specs.Acts.{fits_act, behind_of};
 ghost use Rattle.ca_lower.specs.Building.{code_at, code_in, IsSiteMark, around};
 
 use crate::tables::Tables;
 use ca_flow::AtSite;
-use ca_model::{Function, Item};
+use ca_model::{Act, Function, Item};
 use ca_tree::{ItemId, SiteId};
 use std::marker::Model;
 
@@ -85,6 +86,34 @@ impl<'a> InItem<'a> {
         ensures known { IsInItem self.now }
     {
         self.item.id
+    }
+
+    pub(crate) fn locals(&self) -> u32
+        ensures { result ≡ self.now.function.locals }
+    {
+        self.function.locals
+    }
+
+    // What the item does.
+    pub(crate) fn act(&self) -> &'a Act
+        ensures { result.now ≡ self.now.item.act }
+    {
+        &self.item.act
+    }
+
+    // The number behind its last site.
+    pub(crate) fn behind(&self) -> u32
+        ensures { result ≡ behind_of self.now }
+    {
+        self.tables.behind(self.item)
+    }
+
+    // The item is within the limits of every source.
+    pub(crate) fn keep_within(&self)
+        ensures fits { fits_act self.now.function.locals self.now.item.act ≡ true }
+        ensures few { self.now.function.locals ≤ 128 }
+    {
+        self.tables.known();
     }
 
     // Whether the plan has a site.
