@@ -1,0 +1,16 @@
+pub mod Doing
+pub mod Ordered
+pub mod Standing
+pub mod Starting
+pub mod Following
+pub mod FlowOf
+pub mod RowTables
+pub mod Neighbours
+pub mod TypedSources
+pub mod FunctionItems
+pub mod UsesOfItems
+pub mod SitePlaces
+pub mod SiteItems
+pub mod UsesFound
+pub mod LoweredSites
+pub mod CrossingCode

@@ -1,0 +1,10 @@
+pub mod Instructions
+pub mod Does
+pub mod Standing
+pub mod Linked
+pub mod Graphs
+pub mod Flows
+pub mod Lowerings
+pub mod Definitions
+pub mod Places
+pub mod Tables

@@ -1,0 +1,18 @@
+//! Graphs of instructions over registers, the links between items, and the code of a source under a plan.
+#![tactic(auto)]
+
+mod code;
+mod graph;
+mod instr;
+mod links;
+mod main_function;
+mod places;
+mod rows;
+mod searches;
+mod uses;
+
+pub use code::{Code, code_crosses_threads};
+pub use graph::Graph;
+pub use instr::{AtSite, Instr, Links, Node, NodeId, Reg, Regs, Step};
+pub use links::{Link, destroys, find_links};
+pub use searches::{Points, Reason, Region};
