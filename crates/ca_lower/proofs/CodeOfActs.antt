@@ -38,7 +38,7 @@ module _ (code : Code) (g : List Step) where
   -- an instruction that control doesn't leave
   pub end_step : (k n : ℕ) (r : List Value) (p : Asks Value) (q : Asks Done) (ls : List Left) (node : Node) → At g n node links.Nowhere → ((xs : List Value) → node_run node r xs ≡ (p >> on r) xs) → Does code g k n r (p >> q) ls
   end_step k n r p q ls node is does =
-      step (record { node = node; links = links.Nowhere }) (λ s. q) is (omega arith)
+      step {j = k} (record { node = node; links = links.Nowhere }) (λ s. q) is (omega arith)
       (λ xs. by_got (p xs) ∙ ap (λ d. then d (λ s. q)) (sym (does xs)))
       (λ r' b m' xs ys gives leads. cc)
     where

@@ -16,7 +16,7 @@ pub count_append : (l : Counted) (is js : List Item) → count_items l (is ++ js
 count_append l [] js = refl
 count_append l (i ∷ is) js = count_append (count_item l i) is js
 
-joined_items : (xs : List Stmt) → joined (map items_in xs) ≡ items_in_all xs
+pub joined_items : (xs : List Stmt) → joined (map items_in xs) ≡ items_in_all xs
 joined_items [] = refl
 joined_items (x ∷ xs) = ap (λ is. items_in x ++ is) (joined_items xs)
 

@@ -172,3 +172,26 @@ pub access_on : (x : InFunction) (b c : Builder) (through : Bool) (n : ℕ) (at 
 access_on x b c through n at m k v u t grows is site same e f e' part =
     sites_joined c.steps.items c.site k t (subst (HasSites c.steps.items c.site) (sym e) part)
     (subst (HasSites c.steps.items k) (sym (f ∙ ap (λ j. j + access through) e')) (one_there c.steps.items through n at m k (grows.kept n at is) site same))
+
+-- where a site was taken before
+pub grows_from : (x : InFunction) (a b c : Builder) → (b.steps ≡ a.steps) × (b.registers ≡ a.registers) → Grows x b c → Grows x a c
+grows_from x a b c same h =
+    let steps : b.steps.items ≡ a.steps.items = ap (λ v. v.items) same.0 in
+    record {
+      stands = λ g s. subst (λ k. StandsIn k g) steps (h.stands g s);
+      registers = subst (λ r. r ≤ c.registers) same.1 h.registers;
+      longer = subst (λ k. length k ≤ length c.steps.items) steps h.longer;
+      kept = subst (λ k. (n : ℕ) (at : Step) → slice_get k n ≡ Some at → slice_get c.steps.items n ≡ Some at) steps h.kept;
+      pending = subst (λ k. (n : ℕ) (at : Step) → slice_get c.steps.items n ≡ Some at → is_pending at ≡ true → slice_get k n ≡ Some at) steps h.pending;
+      marked = subst (λ k. AllMarked x k → AllMarked x c.steps.items) steps h.marked;
+      drawn = subst (λ k. AllDrawn k → AllDrawn c.steps.items) steps h.drawn;
+    }
+
+-- an item's sites are counted down to its first one
+pub counted_down : (g : List Step) (from first to : ℕ) → from ≡ first → HasSites g from to → HasSites g first to
+counted_down g from first to same has = subst (λ k. HasSites g k to) same has
+
+-- sites of a part that an instruction with a site ends
+pub one_on : (x : InFunction) (b c : Builder) (n : ℕ) (at : Step) (m : AtSite) (k v u t : ℕ) → Grows x b c → slice_get b.steps.items n ≡ Some at → site_in at.node.instr ≡ Some m → m.site ≡ site_id k
+    → k ≡ u → t ≡ v + 1 → v ≡ k → HasSites c.steps.items c.site u → HasSites c.steps.items c.site t
+one_on x b c n at m k v u t grows is site same = access_on x b c true n at (Some m) k v u t grows is site (ap Some same)

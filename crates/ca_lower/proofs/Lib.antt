@@ -7,5 +7,7 @@ pub mod CodeOfControl
 pub mod Growing
 pub mod Added
 pub mod Within
+pub mod MembersOf
 pub mod CodeOfActs
 pub mod ActsAdded
+pub mod Arguments

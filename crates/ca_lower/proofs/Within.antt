@@ -40,8 +40,8 @@ module _ (low : ℕ) where
   shallow_place : (p : Place) → IsGood (e.AddressOf p) → is_shallow_place low p ≡ true
   unfolding IsGood
   shallow_place p h =
-      both_true (among_place low p) (nat_le (depth_to p) 64) (sym (ap (among low) (e.rolls-AddressOf p) ∙ fold-roll-Exp Bool Bool (exp_among low) place_among (Exp-F.AddressOf p)) ∙ h.0)
-      (up_to_true (depth_to p) 64 (subst (λ n. n ≤ 64) (ap depth (e.rolls-AddressOf p) ∙ fold-roll-Exp ℕ ℕ exp_depth place_depth (Exp-F.AddressOf p)) h.1))
+      both_true (among_place low p) (nat_le (depth_to p) 64) (sym (fold-roll-Exp Bool Bool (exp_among low) place_among (Exp-F.AddressOf p)) ∙ (ap (among low) (e.rolls-AddressOf p) ∙ h.0))
+      (up_to_true (depth_to p) 64 (subst (λ n. n ≤ 64) (sym (ap depth (e.rolls-AddressOf p)) ∙ fold-roll-Exp ℕ ℕ exp_depth place_depth (Exp-F.AddressOf p)) h.1))
 
   all_shallow : (es : List Exp) → ((x : Exp) → Contains es x → IsGood x) → are_shallow low es ≡ true
   all_shallow [] h = refl

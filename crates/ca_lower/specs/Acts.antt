@@ -1,5 +1,5 @@
 -- Items: within which limits they are lowered, and what lowering adds for them.
-use Rattle.std.specs.Prelude.{◌≤◌, ℕ, ◌+◌, Bool, true, false, ◌&&◌, nat_lt, nat_le, List, [], ◌∷◌, length, Option, Some, None}
+use Rattle.std.specs.Prelude.{◌≡◌, ◌≤◌, ◌<◌, drop, ℕ, ◌+◌, Bool, true, false, ◌&&◌, nat_lt, nat_le, List, [], ◌∷◌, length, Option, Some, None}
 use Rattle.ca_tree.specs.declared.numbers.VarId.{VarId}
 use Rattle.ca_model.specs.declared.tree.Exp.{Exp}
 use Rattle.ca_model.specs.declared.tree.Place.{Place}
@@ -8,12 +8,12 @@ use Rattle.ca_model.specs.declared.tree.Target.TheVariants as target
 use Rattle.ca_model.specs.declared.tree.Act.{Act}
 use Rattle.ca_model.specs.declared.tree.Act.TheVariants as act
 use Rattle.ca_model.specs.Bounds.{among, depth}
-use Rattle.ca_model.specs.Sites.{act_sites}
+use Rattle.ca_model.specs.Sites.{act_sites, sites_of_all}
 use Rattle.ca_flow.specs.declared.instr.Step.{Step}
 use Rattle.ca_lower.specs.declared.builder.Builder.{Builder}
 use Rattle.ca_lower.specs.Scopes.{InItem}
 use Rattle.ca_lower.specs.Lowered.{StandsIn, FindsAll, Works, Chooses}
-use Rattle.ca_lower.specs.Building.{code_at, among_place, depth_to}
+use Rattle.ca_lower.specs.Building.{code_at, around, among_place, depth_to, Grows, HasSites}
 
 -- ---- within limits: locals are among those of the function, expressions are no deeper than 64, and arguments no more than 16
 
@@ -56,6 +56,13 @@ fits_act low (act.Return (Some e)) = is_shallow low e
 fits_act low (act.Cond e) = is_shallow low e
 fits_act low act.Close = true
 
+-- what an item sets, where it has a target
+abbrev pub targets : Act → Option Target
+targets (act.Set t e) = Some t
+targets (act.Update t o e) = Some t
+targets (act.Malloc t c n) = Some t
+targets _ = None
+
 -- ---- code that is added
 
 abbrev pub AddsFindAll : InItem → Builder → (n next free : ℕ) → List Exp → Type 0
@@ -73,3 +80,11 @@ first_of x = (code_at x).first_site x.item.id
 
 abbrev pub behind_of : InItem → ℕ
 behind_of x = (code_at x).first_site x.item.id + act_sites x.item.act
+
+-- code of the arguments from number k on, so far
+pub record FindsFrom (x : InItem) (old new : Builder) (n next free k : ℕ) (es : List Exp) : Type 0 where
+  pub adds : AddsFindAll x new n next (free + k) (drop k es)
+  pub grows : Grows (around x) old new
+  pub entry : n < length new.steps.items
+  pub site : old.site ≡ new.site + sites_of_all (drop k es)
+  pub sites : HasSites new.steps.items new.site old.site

@@ -3,3 +3,4 @@ pub mod Scopes
 pub mod Lowered
 pub mod Building
 pub mod Acts
+pub mod Control

@@ -7,7 +7,7 @@ ghost use Rattle.ca_model.specs.Sites.{act_sites, sites_of_all};
 ghost use Rattle.ca_model.specs.WellFormed.{is_condition};
 ghost use Rattle.ca_lower.specs.Lowered.{homes};
 ghost use Rattle.ca_lower.specs.Building.{code_at, around, Grows, HasSites};
-ghost use Rattle.ca_lower.specs.Acts.{are_shallow, fits_act, first_of, behind_of, AddsFindAll, AddsWork, AddsChoice};
+ghost use Rattle.ca_lower.specs.Acts.{are_shallow, fits_act, first_of, behind_of, targets, AddsFindAll, AddsWork, AddsChoice};
 
 use crate::builder::Builder;
 use crate::expressions::{base_home, home, index_home};
@@ -315,20 +315,19 @@ impl Builder {
         Ok(start)
     }
 
-    // A call.
+    // A call whose result is dropped.
     fn call(
         &mut self,
         alloc: Global,
         at: &InItem<'_>,
-        x: Option<VarId>,
         function: FunId,
         es: &[Exp],
         next: NodeId,
     ) -> Result<NodeId, NoMemory>
-        requires act { at.now.item.act ≡ Act.Call x function es.now }
-        requires fits { fits_act at.now.function.locals (Act.Call x function es.now) ≡ true }
+        requires act { at.now.item.act ≡ Act.Call None function es.now }
+        requires fits { fits_act at.now.function.locals (Act.Call None function es.now) ≡ true }
         requires few { at.now.function.locals ≤ 128 }
-        requires site { self.old.site ≡ first_of at.now + act_sites (Act.Call x function es.now) }
+        requires site { self.old.site ≡ first_of at.now + act_sites (Act.Call None function es.now) }
         requires high { self.old.site ≤ behind_of at.now }
         requires next { next.0 < length self.old.steps.items }
         ensures adds { IfOk result (λ n. AddsWork at.now self.new n.0 next.0) }
@@ -337,16 +336,44 @@ impl Builder {
         ensures sites { IfOk result (λ n. HasSites self.new.steps.items (first_of at.now) self.old.site) }
     {
         let low = at.locals();
-        let (to, top) = match x {
-            Some(x) => (Some(Reg(x.0)), x.0),
-            None => (None, 0),
-        };
         let call = Instr::Call {
-            to,
+            to: None,
             function,
             arguments: homes(alloc, es, low)?,
         };
-        let node = self.push(at, call, top, Links::One(next))?;
+        let node = self.push(at, call, 0, Links::One(next))?;
+        let start = self.find_all(es, at, low, node)?;
+        Ok(start)
+    }
+
+    // A call whose result goes into a local.
+    fn call_into(
+        &mut self,
+        alloc: Global,
+        at: &InItem<'_>,
+        x: VarId,
+        function: FunId,
+        es: &[Exp],
+        next: NodeId,
+    ) -> Result<NodeId, NoMemory>
+        requires act { at.now.item.act ≡ Act.Call (Some x) function es.now }
+        requires fits { fits_act at.now.function.locals (Act.Call (Some x) function es.now) ≡ true }
+        requires few { at.now.function.locals ≤ 128 }
+        requires site { self.old.site ≡ first_of at.now + act_sites (Act.Call (Some x) function es.now) }
+        requires high { self.old.site ≤ behind_of at.now }
+        requires next { next.0 < length self.old.steps.items }
+        ensures adds { IfOk result (λ n. AddsWork at.now self.new n.0 next.0) }
+        ensures grows { IfOk result (λ n. Grows (around at.now) self.old self.new) }
+        ensures entry { IfOk result (λ n. n.0 < length self.new.steps.items) }
+        ensures sites { IfOk result (λ n. HasSites self.new.steps.items (first_of at.now) self.old.site) }
+    {
+        let low = at.locals();
+        let call = Instr::Call {
+            to: Some(Reg(x.0)),
+            function,
+            arguments: homes(alloc, es, low)?,
+        };
+        let node = self.push(at, call, x.0, Links::One(next))?;
         let start = self.find_all(es, at, low, node)?;
         Ok(start)
     }
@@ -573,5 +600,127 @@ impl Builder {
     {
         let node = self.push(at, Instr::Return(None), 0, Links::Nowhere)?;
         Ok(node)
+    }
+
+    // An item that sets a local or a cell.
+    fn work_on_target(
+        &mut self,
+        at: &InItem<'_>,
+        target: &Target,
+        next: NodeId,
+    ) -> Result<NodeId, NoMemory>
+        requires act { targets at.now.item.act ≡ Some target.now }
+        requires fits { fits_act at.now.function.locals at.now.item.act ≡ true }
+        requires few { at.now.function.locals ≤ 128 }
+        requires site { self.old.site ≡ behind_of at.now }
+        requires next { next.0 < length self.old.steps.items }
+        ensures adds { IfOk result (λ n. AddsWork at.now self.new n.0 next.0) }
+        ensures grows { IfOk result (λ n. Grows (around at.now) self.old self.new) }
+        ensures entry { IfOk result (λ n. n.0 < length self.new.steps.items) }
+        ensures sites { IfOk result (λ n. HasSites self.new.steps.items (first_of at.now) self.old.site) }
+    {
+        match target {
+            Target::Local(x) => match at.act() {
+                Act::Set(_, e) => self.set_local(at, *x, e, next),
+                Act::Update(_, op, e) => self.update_local(at, *x, *op, e, next),
+                Act::Malloc(_, c, size) => self.malloc_local(at, *x, c, *size, next),
+                _ => Ok(next),
+            },
+            Target::Place(p) => match at.act() {
+                Act::Set(_, e) => self.set_place(at, p, e, next),
+                Act::Update(_, op, e) => self.update_place(at, p, *op, e, next),
+                Act::Malloc(_, c, size) => self.malloc_place(at, p, c, *size, next),
+                _ => Ok(next),
+            },
+        }
+    }
+
+    // An item that is no condition, from the number behind its last site.
+    fn work_by_act(
+        &mut self,
+        alloc: Global,
+        at: &InItem<'_>,
+        next: NodeId,
+    ) -> Result<NodeId, NoMemory>
+        requires act { is_condition at.now.item.act ≡ false }
+        requires fits { fits_act at.now.function.locals at.now.item.act ≡ true }
+        requires few { at.now.function.locals ≤ 128 }
+        requires site { self.old.site ≡ behind_of at.now }
+        requires next { next.0 < length self.old.steps.items }
+        ensures adds { IfOk result (λ n. AddsWork at.now self.new n.0 next.0) }
+        ensures grows { IfOk result (λ n. Grows (around at.now) self.old self.new) }
+        ensures entry { IfOk result (λ n. n.0 < length self.new.steps.items) }
+        ensures sites { IfOk result (λ n. HasSites self.new.steps.items (first_of at.now) self.old.site) }
+    {
+        match at.act() {
+            Act::Zero(x) => self.zero(at, *x, next),
+            Act::Set(target, _) | Act::Update(target, _, _) | Act::Malloc(target, _, _) => self
+                .work_on_target(at, target, next),
+            Act::Call(None, function, es) => self.call(alloc, at, *function, es.as_slice(), next),
+            Act::Call(Some(x), function, es) => self.call_into(
+                alloc,
+                at,
+                *x,
+                *function,
+                es.as_slice(),
+                next,
+            ),
+            Act::Lock(mutex) => self.lock(at, *mutex, next),
+            Act::Unlock(mutex) => self.unlock(at, *mutex, next),
+            Act::Create(x, function, e) => self.create(at, *x, *function, e, next),
+            Act::Join(e) => self.join(at, e, next),
+            Act::Free(e) => self.free(at, e, next),
+            Act::Assert(e) => self.assert(at, e, next),
+            Act::Print(text, es) => self.print(alloc, at, text, es.as_slice(), next),
+            Act::Return(Some(e)) => self.give_back(at, e, next),
+            Act::Return(None) | Act::Close => self.end(at),
+            Act::Cond(_) => Ok(next),
+        }
+    }
+
+    /// An item that is no condition; control goes on at `next`.
+    pub(crate) fn work(
+        &mut self,
+        alloc: Global,
+        at: &InItem<'_>,
+        next: NodeId,
+    ) -> Result<NodeId, NoMemory>
+        requires act { is_condition at.now.item.act ≡ false }
+        requires next { next.0 < length self.old.steps.items }
+        ensures adds { IfOk result (λ n. AddsWork at.now self.new n.0 next.0) }
+        ensures grows { IfOk result (λ n. Grows (around at.now) self.old self.new) }
+        ensures entry { IfOk result (λ n. n.0 < length self.new.steps.items) }
+        ensures sites { IfOk result (λ n. HasSites self.new.steps.items (first_of at.now) (behind_of at.now)) }
+    {
+        at.keep_within();
+        self.site = at.behind();
+        let start = self.work_by_act(alloc, at, next)?;
+        Ok(start)
+    }
+
+    /// A condition; control goes on at `one` where it is true, and at `other` where it is false.
+    pub(crate) fn choose(
+        &mut self,
+        at: &InItem<'_>,
+        one: NodeId,
+        other: NodeId,
+    ) -> Result<NodeId, NoMemory>
+        requires act { is_condition at.now.item.act ≡ true }
+        requires next { (one.0 < length self.old.steps.items) × (other.0 < length self.old.steps.items) }
+        ensures adds { IfOk result (λ n. AddsChoice at.now self.new n.0 one.0 other.0) }
+        ensures grows { IfOk result (λ n. Grows (around at.now) self.old self.new) }
+        ensures entry { IfOk result (λ n. n.0 < length self.new.steps.items) }
+        ensures sites { IfOk result (λ n. HasSites self.new.steps.items (first_of at.now) (behind_of at.now)) }
+    {
+        at.keep_within();
+        self.site = at.behind();
+        match at.act() {
+            Act::Cond(e) => {
+                let low = at.locals();
+                let start = self.decide(e, at, low, one, other)?;
+                Ok(start)
+            }
+            _ => Ok(one),
+        }
     }
 }

@@ -6,4 +6,5 @@ mod builder;
 mod counts;
 mod expressions;
 mod scopes;
+mod statements;
 mod tables;

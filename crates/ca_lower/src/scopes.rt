@@ -116,6 +116,13 @@ impl<'a> InItem<'a> {
         self.tables.known();
     }
 
+    // Whether the plan has a save after the item.
+    pub(crate) fn saves_after(&self) -> bool
+        ensures { result ≡ (code_at self.now).saves_after self.now.item.id }
+    {
+        self.tables.saves_after(self.item.id)
+    }
+
     // Whether the plan has a site.
     pub(crate) fn is_planned(&self, site: SiteId) -> bool
         ensures { result ≡ (code_at self.now).planned site }
