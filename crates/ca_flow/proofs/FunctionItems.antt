@@ -70,6 +70,7 @@ items_within (g ∷ fs) n zero f numbered at i c =
     some_in : Function → Option Function → Function
     some_in d None = d
     some_in d (Some x) = x
+
     some_same : (a b : Function) → Some a ≡ Some b → a ≡ b
     some_same a b e = ap (some_in a) e
 items_within (g ∷ fs) n (suc k) f numbered at i c = items_within fs (n + length (items_of g)) k f (numbered_right n (items_of g) (all_items fs) numbered) at i c

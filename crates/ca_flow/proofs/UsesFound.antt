@@ -142,7 +142,6 @@ functions_called f u (g ∷ fs) lt =
     let more = functions_called f (with_items g.id u (items_of g)) fs (omega (arith, lt, here.0)) in
     (more.0 ∙ here.0, more.1 ∙ (ap (λ r. r ++ calls_to f (all_items fs)) here.1 ∙ (append_assoc (row u.calls f) (calls_to f (items_of g)) (calls_to f (all_items fs)) ∙ ap (λ r. row u.calls f ++ r) (sym (calls_join f (items_of g) (all_items fs))))))
 
-
 calls_are : (fs : List Function) (f : ℕ) → f < length fs → (length (uses_of fs).calls ≡ length fs) × (row (uses_of fs).calls f ≡ calls_to f (all_items fs))
 calls_are fs f lt =
     let count : length (replicate (length fs) []) ≡ length fs = length-replicate {A = List ItemId} (length fs) [] in
@@ -226,9 +225,10 @@ ascend n (i ∷ is) f numbered =
 
 pub calls_exact : (fs : List Function) (f : FunId) (r : List ItemId) → f.0 < length fs → r ≡ row (uses_of fs).calls f.0 → (n : ItemId) → Contains r n ↔ ((x : Item) × (Contains (all_items fs) x × (x.id ≡ n)) × Calls x.act f)
 calls_exact fs f r lt is n =
-    let list : r ≡ calls_to f.0 (all_items fs) = is ∙ (calls_are fs f.0 lt).1 in
-    ((λ c. let h = listed_calls (all_items fs) f n (subst (λ xs. Contains xs n) list c) in (h.0, (h.1, h.2), h.3)),
-    (λ h. subst (λ xs. Contains xs n) (sym list) (kept_calls (all_items fs) f n h.0 h.1.0 h.1.1 h.2)))
+    let list : r ≡ calls_to f.0 (all_items fs) = is ∙ (calls_are fs f.0 lt).1 in (
+      (λ c. let h = listed_calls (all_items fs) f n (subst (λ xs. Contains xs n) list c) in (h.0, (h.1, h.2), h.3)),
+      (λ h. subst (λ xs. Contains xs n) (sym list) (kept_calls (all_items fs) f n h.0 h.1.0 h.1.1 h.2)),
+    )
 
 pub calls_ascend : (fs : List Function) (f : FunId) (r : List ItemId) → Numbered 0 (all_items fs) → f.0 < length fs → r ≡ row (uses_of fs).calls f.0 → IsStrictlyIncreasing (map (λ (i : ItemId). i.0) r)
 calls_ascend fs f r numbered lt is =

@@ -52,6 +52,11 @@ acquiring_in _ = None
 abbrev pub IsSiteOf : Code → Item → SiteId → Type 0
 IsSiteOf code i s = (code.first_site i.id ≤ s.0) × (s.0 < code.first_site i.id + act_sites i.act)
 
+-- a format has at most 256 bytes, and a print at most 8 arguments
+abbrev pub IsShort : Instr → Type 0
+IsShort (instr.Print t as') = (length t ≤ 256) × (length as' ≤ 8)
+IsShort _ = Unit {0}
+
 -- a node is one of an item of its function; its site is one of that item's, and its marks are the plan's
 pub record IsMarked (code : Code) (f : Function) (at : Node) : Type 0 where
   pub item : Item
@@ -59,6 +64,7 @@ pub record IsMarked (code : Code) (f : Function) (at : Node) : Type 0 where
   pub numbered : item.id ≡ at.item
   pub site : (a : AtSite) → site_in at.instr ≡ Some a → IsSiteOf code item a.site × (a.planned ≡ code.planned a.site)
   pub acquiring : (b : Bool) → acquiring_in at.instr ≡ Some b → b ≡ code.acquires at.item
+  pub short : IsShort at.instr
 
 -- some node has a site
 abbrev pub HasSite : List Step → SiteId → Type 0

@@ -77,7 +77,7 @@ fn link_back(rows: &mut Vec<Vec<NodeId>>, links: Links, from: NodeId) -> Result<
 }
 
 // The nodes behind each node.
-fn nodes_after(alloc: Global, steps: &[Step]) -> Result<Vec<Vec<NodeId>>, NoMemory>
+pub(crate) fn nodes_after(alloc: Global, steps: &[Step]) -> Result<Vec<Vec<NodeId>>, NoMemory>
     ensures { IfOk result (λ rows. rows_of rows.items ≡ map (λ s. targets s.links) steps.now) }
 {
     let mut rows = Vec::new(alloc);
@@ -89,7 +89,7 @@ fn nodes_after(alloc: Global, steps: &[Step]) -> Result<Vec<Vec<NodeId>>, NoMemo
 }
 
 // The nodes before each node.
-fn nodes_before(alloc: Global, steps: &[Step]) -> Result<Vec<Vec<NodeId>>, NoMemory>
+pub(crate) fn nodes_before(alloc: Global, steps: &[Step]) -> Result<Vec<Vec<NodeId>>, NoMemory>
     requires { length steps.now < 4294967296 }
     ensures length { IfOk result (λ rows. length rows.items ≡ length steps.now) }
     ensures rows { IfOk result (λ rows. (n : ℕ) → n < length steps.now → row (rows_of rows.items) n ≡ predecessors_from 0 n steps.now) }

@@ -16,3 +16,6 @@ pub use graph::Graph;
 pub use instr::{AtSite, Instr, Links, Node, NodeId, Reg, Regs, Step};
 pub use links::{Link, destroys, find_links};
 pub use searches::{Points, Reason, Region};
+
+#[cfg(test)]
+mod tests;

@@ -12,9 +12,9 @@ graphs-preserved c =
     let next = c.highest-last.result in
     record {
       all = last_on c.args.graphs.now c.graphs.graph-index c.graphs.last next x at c.highest-last.ensures.least
-        (subst (λ g. (s : SiteId) → HasSite g s → s.0 ≤ next) c.steps.ensures.steps c.highest-last.ensures.all) c.graphs.invariant.all;
+          (subst (λ g. (s : SiteId) → HasSite g s → s.0 ≤ next) c.steps.ensures.steps c.highest-last.ensures.all) c.graphs.invariant.all;
       one = last_one c.args.graphs.now c.graphs.last next c.graphs.graph-index x at
-        (subst (λ g. (next ≡ c.graphs.last) ⊎ HasSite g (record { 0 = next })) c.steps.ensures.steps c.highest-last.ensures.one) c.graphs.invariant.one;
+          (subst (λ g. (next ≡ c.graphs.last) ⊎ HasSite g (record { 0 = next })) c.steps.ensures.steps c.highest-last.ensures.one) c.graphs.invariant.one;
     }
 
 pub returns-clause-all : goal.returns-clause-all

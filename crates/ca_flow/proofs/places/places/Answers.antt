@@ -16,9 +16,9 @@ graphs-preserved c =
     let same : c.graphs.function ≡ i = c.graphs.invariant.number in
     let count : length old ≡ c.args.sites = c.graphs.invariant.count in
     let noted = subst (λ n. (k : ℕ) → k < length old → HasSite x.steps (record { 0 = k + 1 }) → IsPlace (record { 0 = n }) x.steps (record { 0 = k + 1 }) (get_or new k no_place)) same
-        (subst (λ g. (k : ℕ) → k < length old → HasSite g (record { 0 = k + 1 }) → IsPlace (record { 0 = c.graphs.function }) g (record { 0 = k + 1 }) (get_or new k no_place)) c.steps.ensures.steps c.note.ensures.noted) in
+    (subst (λ g. (k : ℕ) → k < length old → HasSite g (record { 0 = k + 1 }) → IsPlace (record { 0 = c.graphs.function }) g (record { 0 = k + 1 }) (get_or new k no_place)) c.steps.ensures.steps c.note.ensures.noted) in
     let other = subst (λ n. (k : ℕ) → (get_or new k no_place ≡ get_or old k no_place) ⊎ IsPlace (record { 0 = n }) x.steps (record { 0 = k + 1 }) (get_or new k no_place)) same
-        (subst (λ g. (k : ℕ) → (get_or new k no_place ≡ get_or old k no_place) ⊎ IsPlace (record { 0 = c.graphs.function }) g (record { 0 = k + 1 }) (get_or new k no_place)) c.steps.ensures.steps c.note.ensures.other) in
+    (subst (λ g. (k : ℕ) → (get_or new k no_place ≡ get_or old k no_place) ⊎ IsPlace (record { 0 = c.graphs.function }) g (record { 0 = k + 1 }) (get_or new k no_place)) c.steps.ensures.steps c.note.ensures.other) in
     record {
       number = omega (arith, same);
       count = c.note.ensures.length ∙ count;

@@ -25,12 +25,13 @@ begins : (p : Typed) → IsWellFormed p → (f main : FunId) (b : Bool) → main
 begins p formed f main b is other lt flag fn at =
     let number : fn.id.0 ≡ f.0 = formed.functions f.0 fn at in
     let same : fn.id ≡ f = ap (λ (n : ℕ). let g : FunId = record { 0 = n } in g) number in
-    let exact = created_exact p.functions f b lt flag in
-    ((λ h. let x = exact.0 h in inr (x.0, x.1, subst (Creates x.0.act) (sym same) x.2)),
-    (λ h. elim h [
-      | inl it ↦ absurd (other (sym number ∙ ap (λ (g : FunId). g.0) (it ∙ sym is)))
-      | inr x ↦ exact.1 (x.0, x.1, subst (Creates x.0.act) same x.2)
-    ]))
+    let exact = created_exact p.functions f b lt flag in (
+      (λ h. let x = exact.0 h in inr (x.0, x.1, subst (Creates x.0.act) (sym same) x.2)),
+      (λ h. elim h [
+        | inl it ↦ absurd (other (sym number ∙ ap (λ (g : FunId). g.0) (it ∙ sym is)))
+        | inr x ↦ exact.1 (x.0, x.1, subst (Creates x.0.act) same x.2)
+      ]),
+    )
 
 pub returns-else-f-self : goal.returns-else-f-self
 returns-else-f-self c =

@@ -55,14 +55,15 @@ invariant_of-result c =
     let sites = sites_counted p plan graphs formed c.requires.graphs last all one in
     let count : length c.in_ok-places.places.items ≡ last = c.in_ok-places.ensures.length in
     let fits : last < 4294967296 = c.last_site-sites.type_inv in
-    made x c.of.result.value plan c.of-2.result.value graphs c.in_ok-uses.uses c.in_ok-places.places.items c.main_of-main.result c.in_ok-globals.globals.items c.mutexes.result plan.limit c.of.ensures c.of-2.ensures
-    (record { formed = formed; globals = known_globals x checked; bounded = bounded x checked; fits = c.requires.fits; graphs = c.requires.graphs },
-    record {
-      uses_are = c.in_ok-uses.ensures;
-      few = omega (arith, count, fits);
-      places_are = are_places p plan graphs formed c.requires.graphs last c.in_ok-places.places.items sites count placed;
-      start_is = c.main_of-main.ensures ∙ (ap (λ p. main_number 0 (definitions p.tops)) c.program.ensures.value ∙ main_is x checked);
-      opening_is = c.in_ok-globals.ensures ∙ c.globals.ensures;
-      mutexes_are = c.mutexes.ensures;
-      limit_is = refl;
-    })
+    made x c.of.result.value plan c.of-2.result.value graphs c.in_ok-uses.uses c.in_ok-places.places.items c.main_of-main.result c.in_ok-globals.globals.items c.mutexes.result plan.limit c.of.ensures c.of-2.ensures (
+      record { formed = formed; globals = known_globals x checked; bounded = bounded x checked; fits = c.requires.fits; graphs = c.requires.graphs },
+      record {
+        uses_are = c.in_ok-uses.ensures;
+        few = omega (arith, count, fits);
+        places_are = are_places p plan graphs formed c.requires.graphs last c.in_ok-places.places.items sites count placed;
+        start_is = c.main_of-main.ensures ∙ (ap (λ p. main_number 0 (definitions p.tops)) c.program.ensures.value ∙ main_is x checked);
+        opening_is = c.in_ok-globals.ensures ∙ c.globals.ensures;
+        mutexes_are = c.mutexes.ensures;
+        limit_is = refl;
+      },
+    )

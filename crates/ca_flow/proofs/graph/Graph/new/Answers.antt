@@ -27,10 +27,10 @@ returns-clause-flow c f at =
     (c.in_ok-first.ensures.first ∙ ap (λ h. (first_item h).id) same)
     (c.in_ok-first.ensures.links ∙ ap (λ h. linked (links_of h)) same)
     (λ i within.
-        let low = c.lowest_item-lowest.ensures f i at within in
-        let all = number_within (all_items x.typed.functions) (all_numbered x.typed formed) in
-        let close : f.close.id.0 ≤ length (all_items x.typed.functions) = (all f.close (of_function x.typed.functions f f.close own (last_own f))).1 in
-        let few : length (all_items x.typed.functions) ≤ 65536 = (bounded x c.program-program.ensures.checked).items in
-        let sum = c.saturating_add-count.ensures in
-        let back : c.saturating_sub.result ≡ f.close.id.0 - c.lowest_item-lowest.result = c.saturating_sub.ensures ∙ ap (λ h. h.close.id.0 - c.lowest_item-lowest.result) same in
-        (low.1, within_count c.lowest_item-lowest.result i.id.0 f.close.id.0 0 c.saturating_add-count.result low.0 low.1 low.2 (omega (arith, close, few)) (sum ∙ ap (λ n. min (n + 1) 4294967295) back)))
+    let low = c.lowest_item-lowest.ensures f i at within in
+    let all = number_within (all_items x.typed.functions) (all_numbered x.typed formed) in
+    let close : f.close.id.0 ≤ length (all_items x.typed.functions) = (all f.close (of_function x.typed.functions f f.close own (last_own f))).1 in
+    let few : length (all_items x.typed.functions) ≤ 65536 = (bounded x c.program-program.ensures.checked).items in
+    let sum = c.saturating_add-count.ensures in
+    let back : c.saturating_sub.result ≡ f.close.id.0 - c.lowest_item-lowest.result = c.saturating_sub.ensures ∙ ap (λ h. h.close.id.0 - c.lowest_item-lowest.result) same in
+    (low.1, within_count c.lowest_item-lowest.result i.id.0 f.close.id.0 0 c.saturating_add-count.result low.0 low.1 low.2 (omega (arith, close, few)) (sum ∙ ap (λ n. min (n + 1) 4294967295) back)))
