@@ -98,6 +98,7 @@ marked_by x i here marks = record {
   numbered = refl;
   site = λ a is. subst (IsSiteMark (code_at x) x.item) is marks.0;
   acquiring = λ b is. subst (IsAcquiringMark (code_at x) x.item) is marks.1;
+  short = marks.2;
 }
 
 never : {A : Type 0} → true ≡ false → A

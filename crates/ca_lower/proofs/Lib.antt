@@ -11,3 +11,5 @@ pub mod MembersOf
 pub mod CodeOfActs
 pub mod ActsAdded
 pub mod Arguments
+pub mod Turning
+pub mod Placing

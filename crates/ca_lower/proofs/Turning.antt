@@ -6,6 +6,7 @@ use Rattle.std.proofs.lemmas.List.{length-set}
 use Rattle.std.proofs.lemmas.Option.{slice_get_within}
 use Rattle.ca_tree.specs.declared.numbers.SiteId.{SiteId}
 use Rattle.ca_model.specs.declared.tree.Item.{Item}
+use Rattle.ca_model.specs.Frames.{Code}
 use Rattle.ca_model.proofs.Steps.{get_left}
 use Rattle.ca_flow.specs.declared.instr.AtSite.{AtSite}
 use Rattle.ca_flow.specs.declared.instr.NodeId.{NodeId}
@@ -17,9 +18,9 @@ use Rattle.ca_flow.specs.Graphs.{AreLinks}
 use Rattle.ca_flow.specs.Lowerings.{site_in, IsMarked, HasSite}
 use Rattle.ca_lower.specs.declared.builder.Builder.{Builder}
 use Rattle.ca_lower.specs.Scopes.{InFunction, InItem, IsInItem}
-use Rattle.ca_lower.specs.Lowered.{is_pending, StandsIn}
-use Rattle.ca_lower.specs.Building.{around, code_at, AllMarked, AllDrawn, Grows, HasSites}
-use Rattle.ca_lower.specs.Control.{open_turn, closed_turn, Closes, HaveSites}
+use Rattle.ca_lower.specs.Lowered.{is_pending, StandsIn, Works, Marks}
+use Rattle.ca_lower.specs.Building.{around, code_at, code_in, AllMarked, AllDrawn, Grows, HasSites}
+use Rattle.ca_lower.specs.Control.{open_turn, closed_turn, Closes, HaveSites, RunStep, no_step, one_step}
 use Rattle.std.proofs.lemmas.List.Elements.{Contains-append_cases}
 use Rattle.ca_model.specs.Sites.{act_sites}
 use Rattle.ca_model.proofs.Members.{in_none, in_one}
@@ -119,7 +120,7 @@ loop_grows x t old mid before after there place opened registers grows closes =
       longer = omega (arith, longer, grows.longer, closes.longer);
       kept = λ n at is. closes.kept n at (λ e. let w = slice_get_within old.steps.items n at is in let no' : ⊥ = omega (arith, w, e, place) in no') (grows.kept n at (stays n at is));
       pending = λ n at is p. let was = closes.pending n at is p in elim (either n at (grows.pending n at was.1 p)) [ inl old' ↦ old' | inr end ↦ absurd (was.0 (end.0 ∙ sym place)) ];
-      marked = λ all. closes.marked (grows.marked (λ n at is. elim (either n at is) [ inl old' ↦ all n at old' | inr end ↦ subst (λ (s : Step). IsMarked (code_at x) x.function s.node) end.1 (marked_by x instr.Turn there (tt, tt)) ]));
+      marked = λ all. closes.marked (grows.marked (λ n at is. elim (either n at is) [ inl old' ↦ all n at old' | inr end ↦ subst (λ (s : Step). IsMarked (code_at x) x.function s.node) end.1 (marked_by x instr.Turn there (tt, tt, tt)) ]));
       drawn = λ all. closes.drawn (grows.drawn (λ n at is made. elim (either n at is) [
         | inl old' ↦ links_further (length old.steps.items) (length mid.steps.items) n at.node.instr at.links longer (all n at old' made)
         | inr end ↦ never (ap is_pending end.1 ∙ made)
@@ -155,3 +156,27 @@ have_closed x i t b c is closes open have = record {
         (n, at, a, closes.kept n at (λ e. no_site a (ap site_of_step (same_some (open_turn i) at (sym open ∙ (ap (slice_get b.steps.items) (sym e) ∙ is'))) ∙ site)) is', site, same);
   };
 }
+
+pub site_closed : (x : InFunction) (i : Item) (t : ℕ) (b c : Builder) (from to : ℕ) → Closes x t b c → slice_get b.steps.items t ≡ Some (open_turn i) → HasSites b.steps.items from to → HasSites c.steps.items from to
+site_closed x i t b c from to closes open has = record {
+  there = λ s low high.
+      let (n, at, a, is', site, same) = has.there s low high in
+      (n, at, a, closes.kept n at (λ e. no_site a (ap site_of_step (same_some (open_turn i) at (sym open ∙ (ap (slice_get b.steps.items) (sym e) ∙ is'))) ∙ site)) is', site, same);
+}
+
+-- ---- items of a function
+
+abbrev at_item : InFunction → Item → InItem
+at_item x i = record { source = x.source; plan = x.plan; function = x.function; item = i }
+
+pub grows_in : (x : InFunction) (y : InItem) (i : Item) (a b : Builder) → y ≡ at_item x i → Grows (around y) a b → Grows x a b
+grows_in x y i a b same grows = subst (λ y. Grows (around y) a b) same grows
+
+pub none_steps : (code : Code) (g : List Step) (low width n : ℕ) (o : Option Item) → o ≡ None → RunStep code g low width n n o
+none_steps code g low width n o is = subst (RunStep code g low width n n) (sym is) no_step
+
+pub item_steps : (x : InFunction) (y : InItem) (g : List Step) (width n j next : ℕ) (i : Item) (o : Option Item) → y ≡ at_item x i → o ≡ Some i → Works (code_at y) g y.function.locals width n j y.item
+    → Marks (code_at y) g y.function.locals width ((code_at y).saves_after y.item.id) j next → RunStep (code_in x) g x.function.locals width n next o
+item_steps x y g width n j next i o same is works marks =
+    subst (RunStep (code_in x) g x.function.locals width n next) (sym is)
+    (one_step (subst (λ y. Works (code_at y) g y.function.locals width n j y.item) same works) refl (subst (λ y. Marks (code_at y) g y.function.locals width ((code_at y).saves_after y.item.id) j next) same marks))

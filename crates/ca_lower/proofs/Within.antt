@@ -66,7 +66,7 @@ module _ (low : ℕ) where
   arguments_fit : (es : List Exp) → length es ≤ 16 → ((x : Exp) → Contains es x → IsGood x) → fits_arguments low es ≡ true
   arguments_fit es few reads = both_true (are_shallow low es) (nat_le (length es) 16) (all_shallow es reads) (up_to_true (length es) 16 few)
 
-  act_fits : (a : Act) → ((x : VarId) → Contains (act_locals a) x → x.0 < low) → ((x : Exp) → Contains (act_exps a) x → IsGood x) → ((x : Option VarId) (f : _) (es : List Exp) → a ≡ act.Call x f es → length es ≤ 16) → ((t : _) (es : List Exp) → a ≡ act.Print t es → length es ≤ 16) → fits_act low a ≡ true
+  act_fits : (a : Act) → ((x : VarId) → Contains (act_locals a) x → x.0 < low) → ((x : Exp) → Contains (act_exps a) x → IsGood x) → ((x : Option VarId) (f : _) (es : List Exp) → a ≡ act.Call x f es → length es ≤ 16) → ((t : _) (es : List Exp) → a ≡ act.Print t es → (nat_le (length t) 256 && nat_le (length es) 8) ≡ true) → fits_act low a ≡ true
   act_fits (act.Zero x) sets reads calls prints = below_true x.0 low (sets x (at_head x []))
   act_fits (act.Set t x) sets reads calls prints = target_act_fits t x sets reads
   act_fits (act.Update t o x) sets reads calls prints = target_act_fits t x sets reads
@@ -78,7 +78,7 @@ module _ (low : ℕ) where
   act_fits (act.Join y) sets reads calls prints = shallow y (reads y (at_head y []))
   act_fits (act.Free y) sets reads calls prints = shallow y (reads y (at_head y []))
   act_fits (act.Assert y) sets reads calls prints = shallow y (reads y (at_head y []))
-  act_fits (act.Print t es) sets reads calls prints = arguments_fit es (prints t es refl) reads
+  act_fits (act.Print t es) sets reads calls prints = both_true (are_shallow low es) (nat_le (length t) 256 && nat_le (length es) 8) (all_shallow es reads) (prints t es refl)
   act_fits (act.Return None) sets reads calls prints = refl
   act_fits (act.Return (Some y)) sets reads calls prints = shallow y (reads y (at_head y []))
   act_fits (act.Cond y) sets reads calls prints = shallow y (reads y (at_head y []))
@@ -104,11 +104,8 @@ call_few : (p : Typed) (f : Function) (a : Act) → IsBounded p → IsWithin p f
 call_few p f a bounded within x g es is =
     few_arguments p (slice_get p.functions g.0) (length es) (λ h at. (bounded.locals h (g.0, slice_get_within p.functions g.0 h at, get_or_from_slice_get p.functions g.0 h h at)).0) (subst (λ a. has_arguments p a ≡ true) is within.arguments)
 
-print_few : (p : Typed) (f : Function) (a : Act) → IsWithin p f a → (t : List ℕ) (es : List Exp) → a ≡ act.Print t es → length es ≤ 16
-print_few p f a within t es is =
-    let h : (nat_le (length t) 256 && nat_le (length es) 8) ≡ true = subst (λ a. has_arguments p a ≡ true) is within.arguments in
-    let few : length es ≤ 8 = up_to (length es) 8 (right_true (nat_le (length t) 256) (nat_le (length es) 8) h) in
-    omega (arith, few)
+print_few : (p : Typed) (f : Function) (a : Act) → IsWithin p f a → (t : List ℕ) (es : List Exp) → a ≡ act.Print t es → (nat_le (length t) 256 && nat_le (length es) 8) ≡ true
+print_few p f a within t es is = subst (λ a. has_arguments p a ≡ true) is within.arguments
 
 pub within_fits : (p : Typed) (f : Function) (a : Act) → IsBounded p → IsWithin p f a → fits_act f.locals a ≡ true
 unfolding IsGood

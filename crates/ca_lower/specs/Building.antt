@@ -18,7 +18,7 @@ use Rattle.ca_flow.specs.declared.instr.Links.{Links}
 use Rattle.ca_flow.specs.declared.instr.Links.TheVariants as links
 use Rattle.ca_flow.specs.declared.instr.Step.{Step}
 use Rattle.ca_flow.specs.Graphs.{link_count, is_turn, AreLinks}
-use Rattle.ca_flow.specs.Lowerings.{site_in, acquiring_in, IsSiteOf, IsMarked, HasSite}
+use Rattle.ca_flow.specs.Lowerings.{site_in, acquiring_in, IsSiteOf, IsShort, IsMarked, HasSite}
 use Rattle.ca_lower.specs.declared.builder.Builder.{Builder}
 use Rattle.ca_lower.specs.Scopes.{InFunction, InItem}
 use Rattle.ca_lower.specs.Lowered.{is_pending, StandsIn, Finds, Sets, Decides, Aims, home}
@@ -44,7 +44,7 @@ IsAcquiringMark code i None = Unit {0}
 IsAcquiringMark code i (Some b) = b ≡ code.acquires i.id
 
 abbrev pub HasMarks : InItem → Instr → Type 0
-HasMarks x i = IsSiteMark (code_at x) x.item (site_in i) × IsAcquiringMark (code_at x) x.item (acquiring_in i)
+HasMarks x i = IsSiteMark (code_at x) x.item (site_in i) × IsAcquiringMark (code_at x) x.item (acquiring_in i) × IsShort i
 
 -- links to nodes below n; those of a turn are still to be made
 abbrev pub LeadBelow : ℕ → Instr → Links → Type 0

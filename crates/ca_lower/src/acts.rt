@@ -21,7 +21,8 @@ use std::alloc::Global;
 // The registers of arguments, if `free` is the first one that is free.
 fn homes(alloc: Global, es: &[Exp], free: u32) -> Result<Regs, NoMemory>
     requires { free + length es.now < 256 }
-    ensures { IfOk result (λ regs. regs ≡ homes es.now free) }
+    ensures value { IfOk result (λ regs. regs ≡ homes es.now free) }
+    ensures length { IfOk result (λ regs. length regs ≡ length es.now) }
 {
     let mut regs = Vec::new(alloc);
     let mut register = free;

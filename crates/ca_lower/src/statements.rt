@@ -125,12 +125,12 @@ impl Builder {
 
     #[cycle(control)]
     // A loop from its turn on; behind it control goes on at `next`.
-    fn turn_loop(
+    fn turn_loop<'a>(
         &mut self,
-        body: &Stmt,
+        body: &'a Stmt,
         alloc: Global,
-        scope: &InFunction<'_>,
-        cond: &Item,
+        scope: &InFunction<'a>,
+        cond: &'a Item,
         step: &Option<Item>,
         next: NodeId,
     ) -> Result<Loop, NoMemory>
@@ -159,11 +159,11 @@ impl Builder {
 
     #[cycle(control)]
     // A statement.
-    fn run(
+    fn run<'a>(
         &mut self,
-        s: &Stmt,
+        s: &'a Stmt,
         alloc: Global,
-        scope: &InFunction<'_>,
+        scope: &InFunction<'a>,
         ways: Ways,
     ) -> Result<NodeId, NoMemory>
         requires there { StandsThere scope.now s.now ways.in_loop }
@@ -223,11 +223,11 @@ impl Builder {
 
     #[cycle(control)]
     // The branch of an `else`.
-    fn run_else(
+    fn run_else<'a>(
         &mut self,
-        no: &Option<Boxed<Stmt>>,
+        no: &'a Option<Boxed<Stmt>>,
         alloc: Global,
-        scope: &InFunction<'_>,
+        scope: &InFunction<'a>,
         ways: Ways,
     ) -> Result<NodeId, NoMemory>
         requires there { MayStandThere scope.now no.now ways.in_loop }
@@ -249,11 +249,11 @@ impl Builder {
 
     #[cycle(control)]
     // Statements, from the last to the first.
-    pub(crate) fn run_all(
+    pub(crate) fn run_all<'a>(
         &mut self,
-        ss: &[Stmt],
+        ss: &'a [Stmt],
         alloc: Global,
-        scope: &InFunction<'_>,
+        scope: &InFunction<'a>,
         ways: Ways,
     ) -> Result<NodeId, NoMemory>
         requires there { StandThere scope.now ss.now ways.in_loop }
