@@ -30,7 +30,7 @@ use Rattle.ca_flow.specs.declared.instr.NodeId.{NodeId}
 use Rattle.ca_flow.specs.declared.instr.Step.{Step}
 use Rattle.ca_flow.specs.Instructions.{reg, put, on, site_of}
 use Rattle.ca_flow.proofs.Doing.{then_then}
-use Rattle.ca_lower.specs.Lowered.{Finds, FindsAll, Sets, Decides, Aims, Works, Chooses, home, homes}
+use Rattle.ca_lower.specs.Lowered.{Finds, FindsAll, Sets, Decides, Aims, Works, Ends, Chooses, home, homes}
 use Rattle.ca_model.specs.declared.tree.Place.{map-Place, fold_out-Place}
 use Rattle.ca_model.specs.Bounds.{among, exp_among, place_among, index_among}
 use Rattle.ca_lower.specs.Building.{among_place, index_home}
@@ -38,7 +38,7 @@ use Rattle.ca_lower.proofs.Added.{home_within}
 use Rattle.ca_lower.proofs.Rows.{local_take, kept_less}
 use Rattle.ca_lower.proofs.CodeOfParts.{At, spot_out}
 use Rattle.ca_lower.proofs.CodeOfControl.{IndexBelow, set_works, store_works, cond_chooses}
-use Rattle.ca_lower.proofs.CodeOfActs.{Leaves, leaves_value, leaves_all, ask_works, given_works, effect_works, end_works, result_works, malloc_works, update_works}
+use Rattle.ca_lower.proofs.CodeOfActs.{Leaves, leaves_value, leaves_all, ask_works, given_works, effect_works, ends_by, ends_work, result_works, malloc_works, update_works}
 
 -- what an item does, by its act and its first site
 run_is : (code : Code) (i : Item) (a : Act) (s : ℕ) → i.act ≡ a → code.first_site i.id ≡ s → (l xs : List Value) → item_run code i l xs ≡ act_run a i.id l s xs
@@ -166,15 +166,15 @@ module _ (code : Code) (g : List Step) (low width l : ℕ) (lo : low ≤ l) wher
   pub return_added : (n j s m : ℕ) (i : Item) (item : ItemId) (e : Exp) (a : Reg) → i.act ≡ act.Return (Some e) → code.first_site i.id ≡ s → a.0 ≡ home e l → Finds code g low width l n j (home e l) e s
       → At g j (record { item = item; instr = instr.Return (Some a) }) links.Nowhere → Works code g low width n m i
   return_added n j s m i item e a is first same finds at =
-      end_works code g low width n j (λ t. eval t e s) (λ r. reg r a) (found n j (home e l) s e a same finds) m i (λ v. ask (Returns v)) _ (run_is code i (act.Return (Some e)) s is first) at (λ r xs. refl)
+      ends_work code g low width n m i (ends_by code g low width n j (λ t. eval t e s) (λ r. reg r a) (found n j (home e l) s e a same finds) i (λ v. ask (Returns v)) _ (run_is code i (act.Return (Some e)) s is first) at (λ r xs. refl))
 
   nothing_left : (n : ℕ) → Leaves code g low width n n (λ t. give null) (λ r. null)
   nothing_left n = record { does = λ k r q ls wide more. more r (record { same = refl; wide = refl }) }
 
-  pub end_added : (n m : ℕ) (i : Item) (item : ItemId) → (i.act ≡ act.Return None) ⊎ (i.act ≡ act.Close) → At g n (record { item = item; instr = instr.Return None }) links.Nowhere → Works code g low width n m i
-  end_added n m i item is at = elim is [
-    | inl returns ↦ end_works code g low width n n (λ t. give null) (λ r. null) (nothing_left n) m i (λ v. ask (Returns v)) _ (run_is code i (act.Return None) (code.first_site i.id) returns refl) at (λ r xs. refl)
-    | inr closes ↦ end_works code g low width n n (λ t. give null) (λ r. null) (nothing_left n) m i (λ v. ask (Returns v)) _ (run_is code i act.Close (code.first_site i.id) closes refl) at (λ r xs. refl)
+  pub end_added : (n : ℕ) (i : Item) (item : ItemId) → (i.act ≡ act.Return None) ⊎ (i.act ≡ act.Close) → At g n (record { item = item; instr = instr.Return None }) links.Nowhere → Ends code g low width n i
+  end_added n i item is at = elim is [
+    | inl returns ↦ ends_by code g low width n n (λ t. give null) (λ r. null) (nothing_left n) i (λ v. ask (Returns v)) _ (run_is code i (act.Return None) (code.first_site i.id) returns refl) at (λ r xs. refl)
+    | inr closes ↦ ends_by code g low width n n (λ t. give null) (λ r. null) (nothing_left n) i (λ v. ask (Returns v)) _ (run_is code i act.Close (code.first_site i.id) closes refl) at (λ r xs. refl)
   ]
 
   -- ---- places

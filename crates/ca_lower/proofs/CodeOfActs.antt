@@ -29,7 +29,7 @@ use Rattle.ca_flow.specs.declared.instr.Step.{Step}
 use Rattle.ca_flow.specs.Instructions.{reg, put, on, displacement, site_of, node_run, toward}
 use Rattle.ca_flow.specs.Does.{Does, step}
 use Rattle.ca_flow.proofs.Doing.{then_then, then_same, does_same}
-use Rattle.ca_lower.specs.Lowered.{Kept, Finds, FindsAll, Aims, Works, home, homes}
+use Rattle.ca_lower.specs.Lowered.{Kept, Finds, FindsAll, Aims, Works, Ends, home, homes}
 use Rattle.ca_lower.proofs.Rows.{kept_all, kept_on, kept_less, kept_put, kept_reg, put_here, take_put}
 use Rattle.ca_lower.proofs.CodeOfParts.{At, value_step, effect_step}
 use Rattle.ca_lower.proofs.CodeOfControl.{IndexBelow, kept_index}
@@ -82,6 +82,9 @@ module _ (code : Code) (g : List Step) (low width : ℕ) where
 
   -- ---- items
 
+  pub ends_work : (n m : ℕ) (i : Item) → Ends code g low width n i → Works code g low width n m i
+  ends_work n m i ends = record { does = λ k r ls wide more. ends.does k r ls wide }
+
   -- an item that only asks
   pub ask_works : (n : ℕ) (m : NodeId) (i : Item) (p : Asks Value) (node : Node) → ((l xs : List Value) → item_run code i l xs ≡ (p >> done l) xs) → At g n node (links.One m)
       → ((r xs : List Value) → node_run node r xs ≡ (p >> on r) xs) → Works code g low width n m.0 i
@@ -111,11 +114,11 @@ module _ (code : Code) (g : List Step) (low width : ℕ) where
           effect_step code g k j r1 (f (left r1)) (done (take low r)) ls node m at (does r1) (subst (λ l. Does code g k m.0 r1 (done l) ls) h1.same (more r1 h1.wide))));
     }
 
-    -- an item that asks by it, and is left nowhere
-    pub end_works : (m : ℕ) (i : Item) (f : A → Asks Value) (node : Node) → ((l xs : List Value) → item_run code i l xs ≡ (run l >>= λ v. f v >> done l) xs) → At g j node links.Nowhere
-        → ((r xs : List Value) → node_run node r xs ≡ (f (left r) >> on r) xs) → Works code g low width n m i
-    end_works m i f node is at does = record {
-      does = λ k r ls wide more.
+    -- an item that asks by it, and that control doesn't leave
+    pub ends_by : (i : Item) (f : A → Asks Value) (node : Node) → ((l xs : List Value) → item_run code i l xs ≡ (run l >>= λ v. f v >> done l) xs) → At g j node links.Nowhere
+        → ((r xs : List Value) → node_run node r xs ≡ (f (left r) >> on r) xs) → Ends code g low width n i
+    ends_by i f node is at does = record {
+      does = λ k r ls wide.
           let q : A → Asks Done = λ v. f v >> done (take low r) in
           does_same code g (run (take low r) >>= q) _ (is (take low r)) (leaves.does k r q ls wide (λ r1 h1. end_step code g k j r1 (f (left r1)) (done (take low r)) ls node at (does r1)));
     }

@@ -27,6 +27,7 @@ pub grows_none : (x : InFunction) (b : Builder) → Grows x b b
 grows_none x b = record {
   stands = λ g s. s;
   registers = omega arith;
+  narrow = λ n. n;
   longer = omega arith;
   kept = λ n at is. is;
   pending = λ n at is p. is;
@@ -38,6 +39,7 @@ pub grows_on : (x : InFunction) (a b c : Builder) → Grows x a b → Grows x b 
 grows_on x a b c h k = record {
   stands = λ g s. h.stands g (k.stands g s);
   registers = omega (arith, h.registers, k.registers);
+  narrow = λ n. k.narrow (h.narrow n);
   longer = omega (arith, h.longer, k.longer);
   kept = λ n at is. k.kept n at (h.kept n at is);
   pending = λ n at is p. h.pending n at (k.pending n at is p) p;
@@ -118,10 +120,11 @@ module _ (x : InItem) (old new : Builder) (i : Instr) (l : Links) where
     more : length old.steps.items ≤ length new.steps.items
     more = let e : length new.steps.items ≡ length (old.steps.items ++ step ∷ []) = ap length steps in let f = length-append old.steps.items (step ∷ []) in omega (arith, e, f)
 
-    pub pushed : old.registers ≤ new.registers → IsInItem x → HasMarks x i → Grows (around x) old new
-    pushed registers here marks = record {
+    pub pushed : old.registers ≤ new.registers → (old.registers ≤ 256 → new.registers ≤ 256) → IsInItem x → HasMarks x i → Grows (around x) old new
+    pushed registers narrow here marks = record {
       stands = λ g s n at is made. s n at (stays n at is) made;
       registers = registers;
+      narrow = narrow;
       longer = more;
       kept = stays;
       pending = λ n at is p. elim (either n at is) [ inl was ↦ was | inr end ↦ never (sym p ∙ ap is_pending (sym end.1) ∙ is_made (length old.steps.items) x.item.id i l below) ];
@@ -181,6 +184,7 @@ grows_from x a b c same h =
     record {
       stands = λ g s. subst (λ k. StandsIn k g) steps (h.stands g s);
       registers = subst (λ r. r ≤ c.registers) same.1 h.registers;
+      narrow = λ n. h.narrow (subst (λ r. r ≤ 256) (sym same.1) n);
       longer = subst (λ k. length k ≤ length c.steps.items) steps h.longer;
       kept = subst (λ k. (n : ℕ) (at : Step) → slice_get k n ≡ Some at → slice_get c.steps.items n ≡ Some at) steps h.kept;
       pending = subst (λ k. (n : ℕ) (at : Step) → slice_get c.steps.items n ≡ Some at → is_pending at ≡ true → slice_get k n ≡ Some at) steps h.pending;

@@ -13,3 +13,5 @@ pub mod ActsAdded
 pub mod Arguments
 pub mod Turning
 pub mod Placing
+pub mod StatementsAdded
+pub mod FunctionsAdded

@@ -51,13 +51,16 @@ module _ (x : InFunction) where
     items = subst (AreOf x) (block_items s ss is) h.items;
   }
 
-  if_items : (s a : Stmt) (c : Item) (no' : Option Stmt) → s ≡ st.If c a no' → items_in s ≡ _
-  if_items s a c no' is = items_out s (Stmt-F.If c a no') (ap out-Stmt is ∙ st.outs-If c a no')
+  if_items : (s a : Stmt) (c : Item) → s ≡ st.If c a None → items_in s ≡ c ∷ (items_in a ++ [])
+  if_items s a c is = items_out s (Stmt-F.If c a None) (ap out-Stmt is ∙ st.outs-If c a None)
+
+  if_else_items : (s a no' : Stmt) (c : Item) → s ≡ st.If c a (Some no') → items_in s ≡ c ∷ (items_in a ++ items_in no')
+  if_else_items s a no' c is = items_out s (Stmt-F.If c a (Some no')) (ap out-Stmt is ∙ st.outs-If c a (Some no'))
 
   pub if_there : (s a : Stmt) (c : Item) (no' : Option Stmt) (b : Bool) → s ≡ st.If c a no' → StandsThere x s b → IsConditionThere x c × StandsThere x a b × MayStandThere x no' b
   if_there s a c None b is h =
       let p = placed_by s (Stmt-F.If c a None) b (ap out-Stmt is ∙ st.outs-If c a None) h.placed in
-      let all : AreOf x (c ∷ (items_in a ++ [])) = subst (AreOf x) (if_items s a c None is) h.items in (
+      let all : AreOf x (c ∷ (items_in a ++ [])) = subst (AreOf x) (if_items s a c is) h.items in (
         record { condition = left_true (is_condition c.act) (is_placed x.source a b && true) p; own = all c (at_head c (items_in a ++ [])) },
         record {
           placed = left_true (is_placed x.source a b) true (right_true (is_condition c.act) (is_placed x.source a b && true) p);
@@ -67,7 +70,7 @@ module _ (x : InFunction) where
       )
   if_there s a c (Some no') b is h =
       let p = placed_by s (Stmt-F.If c a (Some no')) b (ap out-Stmt is ∙ st.outs-If c a (Some no')) h.placed in
-      let all : AreOf x (c ∷ (items_in a ++ items_in no')) = subst (AreOf x) (if_items s a c (Some no') is) h.items in
+      let all : AreOf x (c ∷ (items_in a ++ items_in no')) = subst (AreOf x) (if_else_items s a no' c is) h.items in
       let q = right_true (is_condition c.act) (is_placed x.source a b && is_placed x.source no' b) p in (
         record { condition = left_true (is_condition c.act) (is_placed x.source a b && is_placed x.source no' b) p; own = all c (at_head c (items_in a ++ items_in no')) },
         record { placed = left_true (is_placed x.source a b) (is_placed x.source no' b) q; items = λ i m. all i (at_tail c (items_in a ++ items_in no') i (Contains-append_left (items_in a) (items_in no') i m)) },
@@ -148,9 +151,9 @@ module _ (x : InFunction) where
     have_block s ss is h = subst (HaveSites x g) (sym (block_items s ss is)) h
 
     pub have_if : (s a : Stmt) (c : Item) (no' : Option Stmt) → s ≡ st.If c a no' → HaveSites x g (c ∷ []) → HaveSites x g (items_in a) → ((y : Stmt) → no' ≡ Some y → HaveSites x g (items_in y)) → HaveSites x g (items_in s)
-    have_if s a c None is one yes' no'' = subst (HaveSites x g) (sym (if_items s a c None is)) (have_both x g (c ∷ []) (items_in a ++ []) one (have_both x g (items_in a) [] yes' (have_none x g)))
+    have_if s a c None is one yes' no'' = subst (HaveSites x g) (sym (if_items s a c is)) (have_both x g (c ∷ []) (items_in a ++ []) one (have_both x g (items_in a) [] yes' (have_none x g)))
     have_if s a c (Some y) is one yes' no'' =
-        subst (HaveSites x g) (sym (if_items s a c (Some y) is)) (have_both x g (c ∷ []) (items_in a ++ items_in y) one (have_both x g (items_in a) (items_in y) yes' (no'' y refl)))
+        subst (HaveSites x g) (sym (if_else_items s a y c is)) (have_both x g (c ∷ []) (items_in a ++ items_in y) one (have_both x g (items_in a) (items_in y) yes' (no'' y refl)))
 
     pub have_while : (s a : Stmt) (c : Item) → s ≡ st.While c a → HaveSites x g (c ∷ items_in a) → HaveSites x g (items_in s)
     have_while s a c is h = subst (HaveSites x g) (sym (while_items s a c is)) h

@@ -12,7 +12,7 @@ use Rattle.ca_model.specs.Sites.{act_sites, sites_of_all}
 use Rattle.ca_flow.specs.declared.instr.Step.{Step}
 use Rattle.ca_lower.specs.declared.builder.Builder.{Builder}
 use Rattle.ca_lower.specs.Scopes.{InItem}
-use Rattle.ca_lower.specs.Lowered.{StandsIn, FindsAll, Works, Chooses}
+use Rattle.ca_lower.specs.Lowered.{StandsIn, FindsAll, Works, Ends, Chooses}
 use Rattle.ca_lower.specs.Building.{code_at, around, among_place, depth_to, Grows, HasSites}
 
 -- ---- within limits: locals are among those of the function, expressions are no deeper than 64, and arguments no more than 16
@@ -70,6 +70,9 @@ AddsFindAll x new n next free es = (g : List Step) (width : ℕ) → new.registe
 
 abbrev pub AddsWork : InItem → Builder → (n next : ℕ) → Type 0
 AddsWork x new n next = (g : List Step) (width : ℕ) → new.registers ≤ width → StandsIn new.steps.items g → Works (code_at x) g x.function.locals width n next x.item
+
+abbrev pub AddsEnd : InItem → Builder → ℕ → Type 0
+AddsEnd x new n = (g : List Step) (width : ℕ) → new.registers ≤ width → StandsIn new.steps.items g → Ends (code_at x) g x.function.locals width n x.item
 
 abbrev pub AddsChoice : InItem → Builder → (n one other : ℕ) → Type 0
 AddsChoice x new n one other = (g : List Step) (width : ℕ) → new.registers ≤ width → StandsIn new.steps.items g → Chooses (code_at x) g x.function.locals width n one other x.item

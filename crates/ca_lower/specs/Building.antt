@@ -58,10 +58,11 @@ AllMarked x g = (n : ℕ) (at : Step) → slice_get g n ≡ Some at → IsMarked
 abbrev pub AllDrawn : List Step → Type 0
 AllDrawn g = (n : ℕ) (at : Step) → slice_get g n ≡ Some at → is_pending at ≡ false → AreLinks (length g) at.node.instr n at.links
 
--- each step stays, no register goes away, and what is added is marked and drawn as it should be and has no open turn
+-- each step stays, no register goes away, there are no more than 256, and what is added is marked and drawn as it should be and has no open turn
 pub record Grows (x : InFunction) (old new : Builder) : Type 0 where
   pub stands : (g : List Step) → StandsIn new.steps.items g → StandsIn old.steps.items g
   pub registers : old.registers ≤ new.registers
+  pub narrow : old.registers ≤ 256 → new.registers ≤ 256
   pub longer : length old.steps.items ≤ length new.steps.items
   pub kept : (n : ℕ) (at : Step) → slice_get old.steps.items n ≡ Some at → slice_get new.steps.items n ≡ Some at
   pub pending : (n : ℕ) (at : Step) → slice_get new.steps.items n ≡ Some at → is_pending at ≡ true → slice_get old.steps.items n ≡ Some at

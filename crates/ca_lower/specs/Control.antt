@@ -1,5 +1,5 @@
 -- Control: where statements may stand, what lowering adds for them, and turns whose links are made last.
-use Rattle.std.specs.Prelude.{◌≡◌, ◌<◌, ◌≤◌, ◌+◌, ℕ, Bool, true, false, List, [], ◌∷◌, ◌++◌, map, length, Option, Some, None, slice_get, slice_set, Contains}
+use Rattle.std.specs.Prelude.{◌≡◌, ◌<◌, ◌≤◌, ◌+◌, ℕ, Bool, true, false, List, [], ◌∷◌, ◌++◌, map, length, drop, Option, Some, None, slice_get, slice_set, Contains}
 use Rattle.ca_model.specs.declared.tree.Act.{Act}
 use Rattle.ca_model.specs.declared.tree.Item.{Item}
 use Rattle.ca_model.specs.declared.tree.Stmt.{Stmt}
@@ -11,11 +11,12 @@ use Rattle.ca_flow.specs.declared.instr.Links.TheVariants as links
 use Rattle.ca_flow.specs.declared.instr.NodeId.{NodeId}
 use Rattle.ca_flow.specs.declared.instr.Node.{Node}
 use Rattle.ca_flow.specs.declared.instr.Step.{Step}
+use Rattle.ca_flow.specs.Standing.{IsGraphOf}
 use Rattle.ca_lower.specs.declared.builder.Builder.{Builder}
 use Rattle.ca_lower.specs.declared.statements.Ways.{Ways}
 use Rattle.ca_lower.specs.Scopes.{InFunction, InItem}
 use Rattle.ca_lower.specs.Lowered.{is_pending, StandsIn, Works, Chooses, Marks, Runs}
-use Rattle.ca_lower.specs.Building.{code_in, code_at, AllMarked, AllDrawn, HasSites}
+use Rattle.ca_lower.specs.Building.{code_in, code_at, AllMarked, AllDrawn, Grows, HasSites}
 
 -- ---- where statements stand: in a function, with the acts that may stand there
 
@@ -88,6 +89,12 @@ module _ (code : Code) (g : List Step) (low width : ℕ) where
 abbrev pub AddsMark : InItem → Builder → (n next : ℕ) → Type 0
 AddsMark x new n next = (g : List Step) (width : ℕ) → StandsIn new.steps.items g → Marks (code_at x) g x.function.locals width ((code_at x).saves_after x.item.id) n next
 
+abbrev pub AddsEntry : InItem → Builder → (n next : ℕ) → Type 0
+AddsEntry x new n next = (g : List Step) (width : ℕ) → StandsIn new.steps.items g → Marks (code_at x) g x.function.locals width ((code_at x).saves_at_entry x.function.id) n next
+
+abbrev pub AddsFunction : InFunction → Builder → ℕ → Type 0
+AddsFunction x new n = (g : List Step) (width : ℕ) → new.registers ≤ width → StandsIn new.steps.items g → IsGraphOf (code_in x) g n width x.function
+
 abbrev pub AddsStep : InFunction → Builder → (n next : ℕ) → Option Item → Type 0
 AddsStep x new n next o = (g : List Step) (width : ℕ) → new.registers ≤ width → StandsIn new.steps.items g → RunStep (code_in x) g x.function.locals width n next o
 
@@ -126,8 +133,16 @@ closed_turn i m = record { node = record { item = i.id; instr = instr.Turn }; li
 pub record Closes (x : InFunction) (t : ℕ) (old new : Builder) : Type 0 where
   pub stands : (g : List Step) → StandsIn new.steps.items g → StandsIn old.steps.items g
   pub registers : old.registers ≤ new.registers
+  pub narrow : old.registers ≤ 256 → new.registers ≤ 256
   pub longer : length old.steps.items ≤ length new.steps.items
   pub kept : (n : ℕ) (at : Step) → (n ≡ t → ⊥) → slice_get old.steps.items n ≡ Some at → slice_get new.steps.items n ≡ Some at
   pub pending : (n : ℕ) (at : Step) → slice_get new.steps.items n ≡ Some at → is_pending at ≡ true → (n ≡ t → ⊥) × (slice_get old.steps.items n ≡ Some at)
   pub marked : AllMarked x old.steps.items → AllMarked x new.steps.items
   pub drawn : AllDrawn old.steps.items → AllDrawn new.steps.items
+
+-- code of the statements from number k on, so far
+pub record RunsFrom (x : InFunction) (old new : Builder) (n : ℕ) (w : Ways) (k : ℕ) (ss : List Stmt) : Type 0 where
+  pub adds : AddsAll x new n w (drop k ss)
+  pub grows : Grows x old new
+  pub entry : n < length new.steps.items
+  pub sites : HaveSites x new.steps.items (items_in_all (drop k ss))

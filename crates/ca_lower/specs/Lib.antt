@@ -4,3 +4,4 @@ pub mod Lowered
 pub mod Building
 pub mod Acts
 pub mod Control
+pub mod GraphsSoFar

@@ -7,7 +7,7 @@ ghost use Rattle.ca_model.specs.Sites.{act_sites, sites_of_all};
 ghost use Rattle.ca_model.specs.WellFormed.{is_condition};
 ghost use Rattle.ca_lower.specs.Lowered.{homes};
 ghost use Rattle.ca_lower.specs.Building.{code_at, around, Grows, HasSites};
-ghost use Rattle.ca_lower.specs.Acts.{are_shallow, fits_act, first_of, behind_of, targets, AddsFindAll, AddsWork, AddsChoice};
+ghost use Rattle.ca_lower.specs.Acts.{are_shallow, fits_act, first_of, behind_of, targets, AddsFindAll, AddsWork, AddsEnd, AddsChoice};
 
 use crate::builder::Builder;
 use crate::expressions::{base_home, home, index_home};
@@ -593,9 +593,9 @@ impl Builder {
     }
 
     // A `return` without a value, or a closing brace.
-    fn end(&mut self, at: &InItem<'_>) -> Result<NodeId, NoMemory>
+    pub(crate) fn end(&mut self, at: &InItem<'_>) -> Result<NodeId, NoMemory>
         requires act { (at.now.item.act ≡ Act.Return None) ⊎ (at.now.item.act ≡ Act.Close) }
-        ensures adds { IfOk result (λ n. (next : ℕ) → AddsWork at.now self.new n.0 next) }
+        ensures adds { IfOk result (λ n. AddsEnd at.now self.new n.0) }
         ensures grows { IfOk result (λ n. Grows (around at.now) self.old self.new) }
         ensures entry { IfOk result (λ n. n.0 < length self.new.steps.items) }
     {
@@ -674,7 +674,10 @@ impl Builder {
             Act::Assert(e) => self.assert(at, e, next),
             Act::Print(text, es) => self.print(alloc, at, text, es.as_slice(), next),
             Act::Return(Some(e)) => self.give_back(at, e, next),
-            Act::Return(None) | Act::Close => self.end(at),
+            Act::Return(None) | Act::Close => {
+                let start = self.end(at)?;
+                Ok(start)
+            }
             Act::Cond(_) => Ok(next),
         }
     }

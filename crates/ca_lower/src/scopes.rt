@@ -2,6 +2,8 @@
 
 ghost use Rattle.std.specs.Prelude.{◌≡◌, ◌≤◌, ◌+◌, ◌<◌, true, Contains};
 ghost use Rattle.ca_model.specs.Sites.{act_sites, items_of};
+ghost use Rattle.ca_model.specs.WellFormed.{IsWellFormed};
+ghost use Rattle.ca_model.specs.Bounds.{IsBounded};
 ghost use Rattle.ca_lower.specs.Scopes.{IsInFunction, IsInItem};
 ghost use Rattle.ca_lower.specs.Acts.{fits_act, behind_of};
 ghost use Rattle.ca_lower.specs.Building.{code_at, code_in, IsSiteMark, around};
@@ -67,6 +69,21 @@ impl<'a> InFunction<'a> {
         InFunction { tables, function }
     }
 
+    pub(crate) fn function(&self) -> &'a Function
+        ensures { result.now ≡ self.now.function }
+    {
+        self.function
+    }
+
+    // The function is one of a source that is well-formed and within its bounds.
+    pub(crate) fn known(&self)
+        ensures formed { IsWellFormed self.now.source }
+        ensures bounded { IsBounded self.now.source }
+        ensures there { IsInFunction self.now }
+    {
+        self.tables.known();
+    }
+
     // An item of the function.
     pub(crate) fn at(&self, item: &'a Item) -> InItem<'a>
         requires { Contains (items_of self.now.function) item.now }
@@ -114,6 +131,13 @@ impl<'a> InItem<'a> {
         ensures few { self.now.function.locals ≤ 128 }
     {
         self.tables.known();
+    }
+
+    // Whether the plan has a save at the entry of the function.
+    pub(crate) fn saves_at_entry(&self) -> bool
+        ensures { result ≡ (code_at self.now).saves_at_entry self.now.function.id }
+    {
+        self.tables.saves_at_entry(self.function.id)
     }
 
     // Whether the plan has a save after the item.

@@ -3,6 +3,7 @@
 ghost use Rattle.std.specs.Prelude.{◌≡◌, ◌≤◌, ◌<◌, ◌+◌, ◌++◌, ◌∷◌, [], ℕ, length, true, false, IfOk, OnOk, Some, None, slice_get, slice_set, Contains};
 ghost use Rattle.ca_model.specs.Sites.{if_any, items_in, items_in_all, items_of};
 ghost use Rattle.ca_model.specs.WellFormed.{is_condition};
+ghost use Rattle.ca_lower.specs.Scopes.{IsInItem};
 ghost use Rattle.ca_lower.specs.Building.{code_at, code_in, around, Grows, HasSites};
 ghost use Rattle.ca_lower.specs.Acts.{first_of, behind_of};
 ghost use Rattle.ca_model.specs.declared.tree.Stmt.{Stmt};
@@ -79,6 +80,7 @@ impl Builder {
         ensures steps { IfOk result (λ n. self.new.steps.items ≡ self.old.steps.items ++ (open_turn at.now.item ∷ [])) }
         ensures turn { IfOk result (λ n. n.0 ≡ length self.old.steps.items) }
         ensures registers { IfOk result (λ n. self.new.registers ≡ self.old.registers) }
+        ensures there { IfOk result (λ n. IsInItem at.now) }
     {
         let index = u32::try_from(self.steps.len()).map_err(|_| NoMemory)?;
         let item = at.id();
