@@ -5,9 +5,6 @@ use Rattle.ca_model.specs.Codes.{Typed}
 use Rattle.ca_lower.proofs.FunctionsAdded.{contained, graph_of_function}
 use Rattle.ca_lower.proofs.functions.graph_of.Goals as goal
 
-pub new-requires : goal.new-requires
-new-requires c = subst (λ (p : Typed). Contains p.functions c.function-function.result.now) (sym c.requires.source) (contained _ _ _ c.function-function.ensures)
-
 pub returns : goal.returns
 returns c fn at =
     graph_of_function c.args.checked.now.typed c.args.tables.now.plan c.new-scope.result c.function-function.result.now c.args.f.0 fn _ _ c.in_ok-entry.entry _

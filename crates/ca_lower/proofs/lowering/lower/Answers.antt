@@ -8,7 +8,4 @@ use Rattle.ca_lower.proofs.lowering.lower.Goals as goal
 pub functions-preserved : goal.functions-preserved
 functions-preserved c =
     one_more_graph c.args.checked.now.typed c.args.plan.now c.functions.graphs.items _ _ c.functions.f _ (omega arith) c.in_ok-push.ensures.items c.functions.invariant
-    (λ f at. subst (λ (p : Plan). IsGraphUnder c.args.checked.now.typed p f _) c.in_ok-tables.ensures.plan (c.in_ok-graph.ensures f at))
-
-pub new-requires-clause-graphs : goal.new-requires-clause-graphs
-new-requires-clause-graphs c = all_graphs c.args.checked.now.typed c.args.plan.now c.functions.graphs.items c.functions.f (omega (arith, c.functions-test.false, c.functions-f-end.ensures)) c.functions.invariant
+    (λ f at. subst (λ (p : Plan). IsGraphUnder c.args.checked.now.typed p f c.in_ok-graph.graph) c.in_ok-tables.ensures.plan (c.in_ok-graph.ensures f at))

@@ -7,12 +7,9 @@ use Rattle.ca_lower.proofs.Turning.{grows_in, at_item}
 use Rattle.ca_lower.proofs.FunctionsAdded.{close_there, body_there, function_is, function_has}
 use Rattle.ca_lower.proofs.builder.Builder.function.Goals as goal
 
-pub at-requires : goal.at-requires
-at-requires c = close_there c.args.scope.now.function c.function-function.result.now c.function-function.ensures
-
 pub end-requires : goal.end-requires
 end-requires c =
-    inr (ap (λ (y : InItem). y.item.act) c.at-at.ensures ∙ ap (λ (f : Function). f.close.act) c.function-function.ensures ∙ c.known.ensures.formed.closed c.args.scope.now.function c.known.ensures.there)
+    record { act = inr (ap (λ (y : InItem). y.item.act) c.at-at.ensures ∙ ap (λ (f : Function). f.close.act) c.function-function.ensures ∙ c.known.ensures.formed.closed c.args.scope.now.function c.known.ensures.there) }
 
 pub run_all-requires-clause-there : goal.run_all-requires-clause-there
 run_all-requires-clause-there c = body_there c.args.scope.now c.as_slice-body.result.now c.known.ensures.formed c.known.ensures.there (c.as_slice-body.ensures ∙ ap (λ (f : Function). f.body) c.function-function.ensures)
@@ -35,3 +32,6 @@ pub returns-clause-sites : goal.returns-clause-sites
 returns-clause-sites c =
     function_has c.args.scope.now _ _ c.as_slice-body.result.now c.known.ensures.formed c.known.ensures.there (c.as_slice-body.ensures ∙ ap (λ (f : Function). f.body) c.function-function.ensures)
     (grows_in _ _ _ _ _ c.at-at.ensures c.in_ok-entry.ensures.grows) c.in_ok-begin.ensures.sites
+
+pub at-at-requires : goal.at-at-requires
+at-at-requires c = close_there c.args.scope.now.function c.function-function.result.now c.function-function.ensures
