@@ -1,6 +1,6 @@
 -- What code that is added for items is right for.
-use Rattle.std.proofs.Common.{rules, ◌≡◌, ℕ, ◌+◌, ◌<◌, ◌≤◌, Bool, true, false, List, [], ◌∷◌, map, length, Option, Some, None, refl, sym, ap, ◌∙◌, subst, inl, inr, arith}
-use Rattle.std.specs.Prelude.{ℤ, pos, ◌*ℤ◌, take, nat_lt, ◌&&◌, ◌⊎◌}
+use Rattle.std.proofs.Common.{rules, ◌≡◌, ℕ, ◌+◌, ◌<◌, ◌≤◌, Bool, true, false, List, map, Option, Some, None, refl, sym, ap, ◌∙◌, subst, inl, inr, arith}
+use Rattle.std.specs.Prelude.{pos, ◌*ℤ◌, nat_lt, ◌&&◌, ◌⊎◌}
 use Rattle.ca_tree.specs.declared.numbers.FunId.{FunId}
 use Rattle.ca_tree.specs.declared.numbers.VarId.{VarId}
 use Rattle.ca_tree.specs.declared.numbers.ItemId.{ItemId}
@@ -20,7 +20,6 @@ use Rattle.ca_model.specs.Asks.{Locks, Unlocks, Frees, Mallocs, Creates, Joins, 
 use Rattle.ca_model.specs.Printed.{written}
 use Rattle.ca_model.specs.Eval.{part, spot, eval, eval_all, local, access, site_id, site_at}
 use Rattle.ca_model.specs.Items.{Done, done, set, assert, act_run}
-use Rattle.ca_model.specs.Sites.{act_sites}
 use Rattle.ca_model.specs.Frames.{Code, item_run}
 use Rattle.ca_flow.specs.declared.instr.Reg.{Reg}
 use Rattle.ca_flow.specs.declared.instr.AtSite.{AtSite}
@@ -29,7 +28,6 @@ use Rattle.ca_flow.specs.declared.instr.Links.TheVariants as links
 use Rattle.ca_flow.specs.declared.instr.NodeId.{NodeId}
 use Rattle.ca_flow.specs.declared.instr.Step.{Step}
 use Rattle.ca_flow.specs.Instructions.{reg, put, on, site_of}
-use Rattle.ca_flow.proofs.Doing.{then_then}
 use Rattle.ca_lower.specs.Lowered.{Finds, FindsAll, Sets, Decides, Aims, Works, Ends, Chooses, home, homes}
 use Rattle.ca_model.specs.declared.tree.Place.{map-Place, fold_out-Place}
 use Rattle.ca_model.specs.Bounds.{among, exp_among, place_among, index_among}

@@ -1,14 +1,14 @@
 -- What code that is added is right for.
-use Rattle.std.proofs.Common.{rules, ◌≡◌, ℕ, suc, ◌+◌, ◌<◌, ◌≤◌, Bool, true, false, List, [], ◌∷◌, length, Option, Some, None, refl, sym, ap, ◌∙◌, subst, arith}
-use Rattle.std.specs.Prelude.{◌&&◌, ℤ, pos, take, nat_lt, ◌⊎◌}
+use Rattle.std.proofs.Common.{rules, ◌≡◌, ℕ, ◌+◌, ◌<◌, ◌≤◌, Bool, true, false, List, Option, Some, None, refl, sym, ap, ◌∙◌, subst, arith}
+use Rattle.std.specs.Prelude.{◌&&◌, ℤ, pos, take, nat_lt}
 use Rattle.ca_tree.specs.declared.numbers.VarId.{VarId}
 use Rattle.ca_model.specs.declared.values.Value.{Value}
 use Rattle.ca_model.specs.declared.values.Value.TheVariants as value
 use Rattle.ca_model.specs.declared.tree.Exp.{Exp, out-Exp, roll-Exp, map-Exp, fold_out-Exp}
-use Rattle.ca_model.specs.declared.tree.Exp.TheOpen.{Exp-F, Place-F}
+use Rattle.ca_model.specs.declared.tree.Exp.TheOpen.{Exp-F}
 use Rattle.ca_model.specs.declared.tree.Exp.TheVariants as e
 use Rattle.ca_model.specs.declared.tree.Place.{Place, out-Place, fold_out-Place}
-use Rattle.ca_model.specs.Asks.{Is, give}
+use Rattle.ca_model.specs.Asks.{Is}
 use Rattle.ca_model.specs.Eval.{part, spot, eval, local, site_at}
 use Rattle.ca_model.specs.Frames.{Code}
 use Rattle.ca_model.proofs.Induction.{exp_ind, part_out}

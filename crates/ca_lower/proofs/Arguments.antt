@@ -1,14 +1,13 @@
 -- Code of arguments, from the last to the first.
-use Rattle.std.proofs.Common.{rules, ◌≡◌, ℕ, zero, suc, ◌+◌, ◌<◌, ◌≤◌, Bool, true, false, List, [], ◌∷◌, length, drop, get_or, refl, sym, ap, ◌∙◌, subst, arith}
-use Rattle.std.specs.Prelude.{◌&&◌, nat_le}
+use Rattle.std.proofs.Common.{rules, ◌≡◌, ℕ, zero, suc, ◌+◌, ◌<◌, ◌≤◌, true, List, [], ◌∷◌, length, drop, get_or, refl, sym, ap, ◌∙◌, subst, arith}
+use Rattle.std.specs.Prelude.{nat_le}
 use Rattle.ca_model.specs.declared.tree.Exp.{Exp}
 use Rattle.ca_model.specs.Bounds.{among, depth}
 use Rattle.ca_model.specs.Eval.{part}
 use Rattle.ca_model.specs.Sites.{sites_of_all}
-use Rattle.ca_flow.specs.declared.instr.Step.{Step}
 use Rattle.ca_lower.specs.declared.builder.Builder.{Builder}
 use Rattle.ca_lower.specs.Scopes.{InItem}
-use Rattle.ca_lower.specs.Lowered.{FindsAll, home}
+use Rattle.ca_lower.specs.Lowered.{FindsAll}
 use Rattle.ca_lower.specs.Building.{code_at, around, Grows, HasSites, AddsFind}
 use Rattle.ca_lower.specs.Acts.{is_shallow, are_shallow, AddsFindAll, FindsFrom}
 use Rattle.ca_lower.proofs.CountedItems.{from_next}
@@ -45,9 +44,9 @@ one_more_found x old mid new n j next free k k' es e lo after lt is shallow from
       let low : ℕ = x.function.locals in
       let rest = from.adds g width (omega (arith, le, grows.registers)) (grows.stands g stands) in
       let rest' : FindsAll (code_at x) g low width (free + k + 1) j next (drop (k + 1) es) (new.site + (part e).sites) =
-          subst (λ s. FindsAll (code_at x) g low width (free + k + 1) j next (drop (k + 1) es) s) site
-          (subst (λ i. FindsAll (code_at x) g low width (free + k + 1) j next (drop i es) mid.site) after
-          (subst (λ l. FindsAll (code_at x) g low width l j next (drop k' es) mid.site) (omega (arith, after)) rest)) in
+      subst (λ s. FindsAll (code_at x) g low width (free + k + 1) j next (drop (k + 1) es) s) site
+      (subst (λ i. FindsAll (code_at x) g low width (free + k + 1) j next (drop i es) mid.site) after
+      (subst (λ l. FindsAll (code_at x) g low width l j next (drop k' es) mid.site) (omega (arith, after)) rest)) in
       subst (λ ys. FindsAll (code_at x) g low width (free + k) n next ys new.site) (sym (from_next es k e lt is))
       (finds_one_more (code_at x) g low width (free + k) n j next new.site e (drop (k + 1) es) (omega (arith, lo)) (home_within low (free + k) e (omega (arith, lo)) (among_at low es k e lt is shallow)) (finds g width le stands) rest');
   grows = grows_on (around x) old mid new from.grows grows;

@@ -1,6 +1,6 @@
 -- The number behind the last site of an item, in a list of items that are numbered in order.
-use Rattle.std.proofs.Common.{◌≡◌, ℕ, zero, suc, ◌+◌, ◌<◌, Bool, true, false, List, [], ◌∷◌, length, Some, refl, sym, ap, ◌∙◌, subst, inl, inr, arith, add-one}
-use Rattle.std.specs.Prelude.{◌==◌, Contains, cond, slice_get}
+use Rattle.std.proofs.Common.{◌≡◌, ℕ, suc, ◌+◌, List, [], ◌∷◌, Some, refl, sym, ap, ◌∙◌, inl, inr, arith}
+use Rattle.std.specs.Prelude.{Contains, cond, slice_get}
 use Rattle.std.proofs.lemmas.Bool.{eq-eqb, ne_eqb}
 use Rattle.ca_model.specs.declared.tree.Item.{Item}
 use Rattle.ca_model.specs.Codes.{Typed}
@@ -23,7 +23,7 @@ behind_at (x ∷ xs) n m from i e numbered c = elim (in_cons x xs i c) [
       (0, ap (λ z. z.id.0) (sym same) ∙ numbered 0 x refl, ap Some (ap (λ z. m + act_sites z.act) same ∙ ap (λ k. k + act_sites i.act) (sym first)))
   | inr more ↦
       let later : IsAt (from + 1) (behind_each (m + act_sites x.act) xs) i (first_from (n + act_sites x.act) xs i.id + act_sites i.act) =
-          behind_at xs (n + act_sites x.act) (m + act_sites x.act) (from + 1) i (omega (arith, e)) (λ k j at. let h : j.id.0 ≡ from + suc k = numbered (suc k) j at in omega (arith, h)) more in
+      behind_at xs (n + act_sites x.act) (m + act_sites x.act) (from + 1) i (omega (arith, e)) (λ k j at. let h : j.id.0 ≡ from + suc k = numbered (suc k) j at in omega (arith, h)) more in
       let here : x.id.0 ≡ from + 0 = numbered 0 x refl in
       let first : first_from n (x ∷ xs) i.id ≡ first_from (n + act_sites x.act) xs i.id = ap (λ b. cond b (n + 1) (first_from (n + act_sites x.act) xs i.id)) (ne_eqb x.id.0 i.id.0 (λ h. let no' : ⊥ = omega (arith, later.1, here, h) in no')) in
       (suc later.0, omega (arith, later.1), later.2 ∙ ap Some (ap (λ k. k + act_sites i.act) (sym first)))

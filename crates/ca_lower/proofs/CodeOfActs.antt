@@ -1,8 +1,7 @@
 -- Code of items, by what stands behind it.
-use Rattle.std.proofs.Common.{◌≡◌, ℕ, zero, suc, ◌+◌, ◌<◌, ◌≤◌, Bool, true, false, List, [], ◌∷◌, map, length, Option, Some, None, refl, sym, ap, ◌∙◌, subst, arith}
-use Rattle.std.specs.Prelude.{ℤ, pos, ◌+ℤ◌, ◌*ℤ◌, take, slice_get, slice_set}
+use Rattle.std.proofs.Common.{◌≡◌, ℕ, ◌+◌, ◌<◌, ◌≤◌, Bool, List, [], ◌∷◌, map, length, Option, refl, sym, ap, ◌∙◌, subst, arith}
+use Rattle.std.specs.Prelude.{ℤ, pos, ◌*ℤ◌, take, slice_set}
 use Rattle.std.proofs.lemmas.List.{length-set}
-use Rattle.ca_tree.specs.declared.numbers.FunId.{FunId}
 use Rattle.ca_tree.specs.declared.numbers.VarId.{VarId}
 use Rattle.ca_tree.specs.declared.numbers.SiteId.{SiteId}
 use Rattle.ca_model.specs.declared.values.Value.{Value}
@@ -10,14 +9,13 @@ use Rattle.ca_model.specs.declared.tree.BinOp.{BinOp}
 use Rattle.ca_model.specs.declared.tree.LoadKind.TheVariants as kind
 use Rattle.ca_model.specs.declared.tree.Exp.{Exp}
 use Rattle.ca_model.specs.declared.tree.Place.{Place}
-use Rattle.ca_model.specs.declared.tree.Act.{Act}
 use Rattle.ca_model.specs.declared.tree.Act.TheVariants as act
 use Rattle.ca_model.specs.declared.tree.Target.TheVariants as target
 use Rattle.ca_model.specs.declared.tree.Item.{Item}
-use Rattle.ca_model.specs.Arith.{null, number, truth, operated}
-use Rattle.ca_model.specs.Asks.{Want, Reads, Writes, Mallocs, Calls, Returns, Fails, Got, Is, Wants, No_result, Asks, then, ◌>>=◌, ◌>>◌, give, ask, result}
-use Rattle.ca_model.specs.Eval.{Part, part, spot, eval, eval_all, local, access, site_at}
-use Rattle.ca_model.specs.Items.{Done, done, set, assert, act_run, Aim}
+use Rattle.ca_model.specs.Arith.{number, operated}
+use Rattle.ca_model.specs.Asks.{Reads, Writes, Mallocs, Got, Is, Wants, No_result, Asks, then, ◌>>=◌, ◌>>◌, give, ask, result}
+use Rattle.ca_model.specs.Eval.{part, spot, eval, eval_all, local, access, site_at}
+use Rattle.ca_model.specs.Items.{Done, done, set, act_run, Aim}
 use Rattle.ca_model.specs.Frames.{Code, Left, item_run}
 use Rattle.ca_flow.specs.declared.instr.Reg.{Reg}
 use Rattle.ca_flow.specs.declared.instr.AtSite.{AtSite}
@@ -26,7 +24,7 @@ use Rattle.ca_flow.specs.declared.instr.Links.TheVariants as links
 use Rattle.ca_flow.specs.declared.instr.NodeId.{NodeId}
 use Rattle.ca_flow.specs.declared.instr.Node.{Node}
 use Rattle.ca_flow.specs.declared.instr.Step.{Step}
-use Rattle.ca_flow.specs.Instructions.{reg, put, on, displacement, site_of, node_run, toward}
+use Rattle.ca_flow.specs.Instructions.{reg, put, on, displacement, site_of, node_run}
 use Rattle.ca_flow.specs.Does.{Does, step}
 use Rattle.ca_flow.proofs.Doing.{then_then, then_same, does_same}
 use Rattle.ca_lower.specs.Lowered.{Kept, Finds, FindsAll, Aims, Works, Ends, home, homes}

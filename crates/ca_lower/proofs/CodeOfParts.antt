@@ -1,24 +1,22 @@
 -- Code of expressions, by what stands behind it.
-use Rattle.std.proofs.Common.{◌≡◌, ℕ, zero, suc, ◌+◌, ◌<◌, ◌≤◌, Bool, true, false, List, [], ◌∷◌, length, Option, Some, None, refl, sym, ap, ◌∙◌, subst, arith}
+use Rattle.std.proofs.Common.{◌≡◌, ℕ, suc, ◌+◌, ◌<◌, ◌≤◌, Bool, true, false, List, length, Option, Some, None, refl, sym, ap, ◌∙◌, subst, arith}
 use Rattle.std.specs.Prelude.{ℤ, pos, ◌+ℤ◌, ◌*ℤ◌, not, take, slice_get, slice_set}
 use Rattle.ca_tree.specs.declared.numbers.VarId.{VarId}
-use Rattle.ca_tree.specs.declared.numbers.GlobalId.{GlobalId}
 use Rattle.ca_model.specs.declared.values.Value.{Value}
 use Rattle.ca_model.specs.declared.values.Value.TheVariants as value
 use Rattle.ca_model.specs.declared.tree.BinOp.{BinOp}
 use Rattle.ca_model.specs.declared.tree.LoadKind.{LoadKind}
 use Rattle.ca_model.specs.declared.tree.Exp.{Exp, out-Exp}
-use Rattle.ca_model.specs.declared.tree.Exp.TheOpen.{Exp-F, Place-F}
+use Rattle.ca_model.specs.declared.tree.Exp.TheOpen.{Exp-F}
 use Rattle.ca_model.specs.declared.tree.Exp.TheVariants as e
 use Rattle.ca_model.specs.declared.tree.Place.{Place, out-Place, map-Place, fold_out-Place}
-use Rattle.ca_model.specs.Arith.{null, number, truth, operated, displaced}
-use Rattle.ca_model.specs.Asks.{Want, Reads, Got, Is, Wants, No_result, Asks, then, ◌>>=◌, ◌>>◌, give, ask, result}
-use Rattle.ca_model.specs.Eval.{Part, Spot, exp_step, place_step, part, spot, eval, local, flag, negated, access, site_at, unless}
+use Rattle.ca_model.specs.Arith.{number, truth, operated, displaced}
+use Rattle.ca_model.specs.Asks.{Reads, Got, Is, Wants, No_result, Asks, then, ◌>>=◌, ◌>>◌, give, ask, result}
+use Rattle.ca_model.specs.Eval.{Part, Spot, exp_step, place_step, part, spot, eval, local, flag, negated, site_at, unless}
 use Rattle.ca_model.specs.Items.{Done}
 use Rattle.ca_model.specs.Frames.{Code, Left}
 use Rattle.ca_model.proofs.Induction.{part_out}
 use Rattle.ca_flow.specs.declared.instr.Reg.{Reg}
-use Rattle.ca_flow.specs.declared.instr.Instr.{Instr}
 use Rattle.ca_flow.specs.declared.instr.Instr.TheVariants as instr
 use Rattle.ca_flow.specs.declared.instr.Links.{Links}
 use Rattle.ca_flow.specs.declared.instr.Links.TheVariants as links
@@ -26,9 +24,9 @@ use Rattle.ca_flow.specs.declared.instr.NodeId.{NodeId}
 use Rattle.ca_flow.specs.declared.instr.Node.{Node}
 use Rattle.ca_flow.specs.declared.instr.Step.{Step}
 use Rattle.ca_flow.specs.Instructions.{reg, put, on, displacement, site_of, node_run, toward}
-use Rattle.ca_flow.specs.Does.{Does, enough, step, passes}
-use Rattle.ca_flow.proofs.Doing.{then_then, then_same, does_same, does_less}
-use Rattle.ca_lower.specs.Lowered.{Kept, Finds, Sets, Decides, Aims}
+use Rattle.ca_flow.specs.Does.{Does, step}
+use Rattle.ca_flow.proofs.Doing.{then_then, then_same, does_same}
+use Rattle.ca_lower.specs.Lowered.{Finds, Sets, Decides, Aims}
 use Rattle.ca_lower.proofs.Rows.{kept_all, kept_on, kept_less, kept_put, kept_reg, put_here, local_take}
 
 -- what a part that is done has

@@ -1,15 +1,14 @@
 -- What code that is added for functions is right for.
-use Rattle.std.proofs.Common.{◌≡◌, ℕ, ◌+◌, ◌<◌, ◌≤◌, Bool, true, false, List, [], ◌∷◌, ◌++◌, map, length, Option, Some, None, refl, sym, ap, ◌∙◌, subst, inl, inr, arith, length-append}
-use Rattle.std.specs.Prelude.{slice_get, Contains, ◌⊎◌}
+use Rattle.std.proofs.Common.{◌≡◌, ℕ, ◌+◌, ◌<◌, ◌≤◌, Bool, true, false, List, [], ◌∷◌, ◌++◌, map, length, Some, refl, sym, ap, ◌∙◌, subst, inl, inr, arith, length-append}
+use Rattle.std.specs.Prelude.{slice_get, Contains}
 use Rattle.std.proofs.lemmas.List.Elements.{Contains-append_left, Contains-append_right}
 use Rattle.std.proofs.lemmas.Option.{slice_get_within, get_or_from_slice_get}
-use Rattle.ca_tree.specs.declared.numbers.SiteId.{SiteId}
 use Rattle.ca_model.specs.declared.plan.Plan.{Plan}
 use Rattle.ca_model.specs.declared.tree.Act.TheVariants as act
 use Rattle.ca_model.specs.declared.tree.Item.{Item}
 use Rattle.ca_model.specs.declared.tree.Stmt.{Stmt}
 use Rattle.ca_model.specs.declared.tree.Function.{Function}
-use Rattle.ca_model.specs.Codes.{Typed, code_of}
+use Rattle.ca_model.specs.Codes.{Typed}
 use Rattle.ca_model.specs.Frames.{Code, Begin, Run}
 use Rattle.ca_model.specs.Sites.{act_sites, items_in_all, items_of}
 use Rattle.ca_model.specs.WellFormed.{IsWellFormed}
@@ -20,15 +19,15 @@ use Rattle.ca_flow.specs.declared.instr.Step.{Step}
 use Rattle.ca_flow.specs.Graphs.{ControlFlow, IsDrawn, AreLinks}
 use Rattle.ca_flow.specs.Flows.{IsFlowOf}
 use Rattle.ca_flow.specs.Standing.{IsGraphOf}
-use Rattle.ca_flow.specs.Lowerings.{IsSiteOf, IsMarked, HasSite, IsGraphUnder, AreGraphsOf}
+use Rattle.ca_flow.specs.Lowerings.{IsMarked, HasSite, IsGraphUnder, AreGraphsOf}
 use Rattle.ca_lower.specs.declared.builder.Builder.{Builder}
 use Rattle.ca_lower.specs.Scopes.{InFunction, InItem, IsInFunction}
-use Rattle.ca_lower.specs.Lowered.{is_pending, StandsIn, Ends, Marks}
-use Rattle.ca_lower.specs.Building.{code_in, code_at, around, AllDrawn, AllMarked, Grows, HasSites}
+use Rattle.ca_lower.specs.Lowered.{is_pending, Ends, Marks}
+use Rattle.ca_lower.specs.Building.{code_in, code_at, AllDrawn, AllMarked, Grows}
 use Rattle.ca_lower.specs.Control.{RunAll, StandThere, HaveSites, AddsFunction}
 use Rattle.ca_lower.specs.GraphsSoFar.{AreSoFar}
-use Rattle.ca_lower.proofs.Growing.{old_or_end, grows_on}
-use Rattle.ca_lower.proofs.Turning.{at_item, have_both, have_kept, grows_in}
+use Rattle.ca_lower.proofs.Growing.{old_or_end}
+use Rattle.ca_lower.proofs.Turning.{at_item, have_both, have_kept}
 use Rattle.ca_lower.proofs.CodeOfControl.{follows_enter, all_follow}
 
 never : {A : Type 0} → false ≡ true → A

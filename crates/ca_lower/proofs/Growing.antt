@@ -1,20 +1,17 @@
 -- Graphs that grow.
-use Rattle.std.proofs.Common.{rules, ◌≡◌, ℕ, zero, suc, ◌+◌, ◌<◌, ◌≤◌, Bool, true, false, List, [], ◌∷◌, ◌++◌, length, Option, Some, None, refl, sym, ap, ◌∙◌, subst, inl, inr, arith, add-one, length-append}
-use Rattle.std.specs.Prelude.{nat_lt, slice_get, ◌⊎◌, Contains}
-use Rattle.std.proofs.lemmas.Option.{slice_get_within}
+use Rattle.std.proofs.Common.{rules, ◌≡◌, ℕ, zero, suc, ◌+◌, ◌<◌, ◌≤◌, Bool, true, false, List, [], ◌∷◌, ◌++◌, length, Option, Some, None, refl, sym, ap, ◌∙◌, subst, inl, inr, arith, length-append}
+use Rattle.std.specs.Prelude.{nat_lt, slice_get, ◌⊎◌}
 use Rattle.ca_tree.specs.declared.numbers.ItemId.{ItemId}
 use Rattle.ca_model.proofs.Steps.{get_left}
-use Rattle.ca_model.proofs.Composition.{get_right}
 use Rattle.ca_flow.specs.declared.instr.AtSite.{AtSite}
 use Rattle.ca_flow.specs.declared.instr.NodeId.{NodeId}
 use Rattle.ca_flow.specs.declared.instr.Instr.{Instr}
 use Rattle.ca_flow.specs.declared.instr.Instr.TheVariants as instr
 use Rattle.ca_flow.specs.declared.instr.Links.{Links}
 use Rattle.ca_flow.specs.declared.instr.Links.TheVariants as links
-use Rattle.ca_flow.specs.declared.instr.Node.{Node}
 use Rattle.ca_flow.specs.declared.instr.Step.{Step}
-use Rattle.ca_flow.specs.Graphs.{link_count, is_turn, IsLink, AreLinks}
-use Rattle.ca_flow.specs.Lowerings.{site_in, acquiring_in, IsSiteOf, IsMarked, HasSite}
+use Rattle.ca_flow.specs.Graphs.{link_count, IsLink, AreLinks}
+use Rattle.ca_flow.specs.Lowerings.{site_in, IsMarked, HasSite}
 use Rattle.ca_flow.specs.Instructions.{site_of}
 use Rattle.ca_model.specs.Eval.{access, site_at, site_id}
 use Rattle.ca_tree.specs.declared.numbers.SiteId.{SiteId}

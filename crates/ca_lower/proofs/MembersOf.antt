@@ -1,6 +1,6 @@
 -- Items of functions and of statements.
-use Rattle.std.proofs.Common.{◌≡◌, List, [], ◌∷◌, ◌++◌, refl, sym, ap, subst, inl, inr}
-use Rattle.std.specs.Prelude.{Contains, ◌⊎◌}
+use Rattle.std.proofs.Common.{List, [], ◌∷◌, sym, subst, inl, inr}
+use Rattle.std.specs.Prelude.{Contains}
 use Rattle.std.proofs.lemmas.List.Elements.{Contains-append_left, Contains-append_right}
 use Rattle.ca_model.specs.declared.tree.Item.{Item}
 use Rattle.ca_model.specs.declared.tree.Function.{Function}

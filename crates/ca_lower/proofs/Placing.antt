@@ -1,5 +1,5 @@
 -- Where the parts of a statement stand, and the sites of its items by those of its parts.
-use Rattle.std.proofs.Common.{◌≡◌, ℕ, zero, suc, ◌+◌, ◌<◌, Bool, true, false, List, [], ◌∷◌, ◌++◌, map, length, drop, get_or, Option, Some, None, refl, sym, ap, ◌∙◌, subst, inl, inr, arith}
+use Rattle.std.proofs.Common.{◌≡◌, ℕ, zero, suc, ◌<◌, Bool, true, false, List, [], ◌∷◌, ◌++◌, map, length, get_or, Option, Some, None, refl, sym, ap, ◌∙◌, subst, inl, inr, arith}
 use Rattle.std.specs.Prelude.{◌&&◌, not, Contains}
 use Rattle.std.proofs.lemmas.List.Elements.{Contains-append_left, Contains-append_right, Contains-append_cases}
 use Rattle.ca_model.specs.declared.tree.Act.{Act}
@@ -8,11 +8,11 @@ use Rattle.ca_model.specs.declared.tree.Item.{Item}
 use Rattle.ca_model.specs.declared.tree.Stmt.{Stmt, out-Stmt, map-Stmt}
 use Rattle.ca_model.specs.declared.tree.Stmt.TheOpen.{Stmt-F}
 use Rattle.ca_model.specs.declared.tree.Stmt.TheVariants as st
-use Rattle.ca_model.specs.Sites.{if_any, items_in, items_in_all, items_of}
-use Rattle.ca_model.specs.WellFormed.{is_simple, is_condition, knows, is_in_head, is_placed, all_placed, if_placed, placed_step}
+use Rattle.ca_model.specs.Sites.{if_any, items_in, items_in_all}
+use Rattle.ca_model.specs.WellFormed.{is_simple, is_condition, knows, is_in_head, is_placed, all_placed, placed_step}
 use Rattle.ca_model.specs.Destroying.{is_last}
 use Rattle.ca_model.proofs.Equations.{items_out, items_block}
-use Rattle.ca_model.proofs.Members.{in_none, in_one, in_cons, at_head, at_tail}
+use Rattle.ca_model.proofs.Members.{in_one, at_head, at_tail}
 use Rattle.ca_model.proofs.StraightLines.{placed_out}
 use Rattle.ca_flow.specs.declared.instr.Step.{Step}
 use Rattle.ca_lower.specs.Scopes.{InFunction}

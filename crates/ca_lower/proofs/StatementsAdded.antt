@@ -1,17 +1,15 @@
 -- What code that is added for statements is right for.
-use Rattle.std.proofs.Common.{◌≡◌, ℕ, suc, ◌+◌, ◌<◌, ◌≤◌, Bool, true, false, List, [], ◌∷◌, ◌++◌, length, drop, get_or, Option, Some, None, refl, sym, ap, ◌∙◌, subst, arith}
-use Rattle.std.specs.Prelude.{slice_get, Contains}
+use Rattle.std.proofs.Common.{◌≡◌, ℕ, ◌+◌, ◌<◌, Bool, true, List, [], ◌∷◌, length, drop, get_or, Option, Some, None, refl, sym, ap, ◌∙◌, subst, arith}
 use Rattle.ca_model.specs.declared.tree.Item.{Item}
 use Rattle.ca_model.specs.declared.tree.Stmt.{Stmt, out-Stmt}
 use Rattle.ca_model.specs.declared.tree.Stmt.TheVariants as st
-use Rattle.ca_model.specs.Frames.{Code}
-use Rattle.ca_model.specs.Sites.{if_any, items_in, items_in_all}
+use Rattle.ca_model.specs.Sites.{items_in, items_in_all}
 use Rattle.ca_flow.specs.declared.instr.NodeId.{NodeId}
 use Rattle.ca_flow.specs.declared.instr.Step.{Step}
 use Rattle.ca_lower.specs.declared.builder.Builder.{Builder}
 use Rattle.ca_lower.specs.declared.statements.Ways.{Ways}
 use Rattle.ca_lower.specs.Scopes.{InFunction, InItem}
-use Rattle.ca_lower.specs.Lowered.{StandsIn, Works, Chooses, Marks, Runs}
+use Rattle.ca_lower.specs.Lowered.{Works, Chooses, Marks, Runs}
 use Rattle.ca_lower.specs.Building.{code_in, code_at, Grows}
 use Rattle.ca_lower.specs.Control.{RunAll, no_more, one_more, RunElse, without, with, RunStep, Turns, RunLoop, AddsAll, AddsRuns, RunsFrom, HaveSites}
 use Rattle.ca_lower.proofs.CountedItems.{from_next}

@@ -1,25 +1,22 @@
 -- Turns that are made open, and get their links last.
-use Rattle.std.proofs.Common.{◌≡◌, ℕ, zero, suc, ◌+◌, ◌<◌, ◌≤◌, Bool, true, false, List, [], ◌∷◌, ◌++◌, length, Option, Some, None, refl, sym, ap, ◌∙◌, subst, inl, inr, arith, length-append}
-use Rattle.std.specs.Prelude.{slice_get, slice_set, ◌⊎◌, Contains}
+use Rattle.std.proofs.Common.{◌≡◌, ℕ, zero, suc, ◌+◌, ◌<◌, ◌≤◌, true, false, List, [], ◌∷◌, ◌++◌, length, Option, Some, None, refl, sym, ap, ◌∙◌, subst, inl, inr, arith, length-append}
+use Rattle.std.specs.Prelude.{slice_get, slice_set, ◌⊎◌}
 use Rattle.std.proofs.lemmas.Bool.Decides.{eqb_tells}
 use Rattle.std.proofs.lemmas.List.{length-set}
 use Rattle.std.proofs.lemmas.Option.{slice_get_within}
-use Rattle.ca_tree.specs.declared.numbers.SiteId.{SiteId}
 use Rattle.ca_model.specs.declared.tree.Item.{Item}
 use Rattle.ca_model.specs.Frames.{Code}
 use Rattle.ca_model.proofs.Steps.{get_left}
 use Rattle.ca_flow.specs.declared.instr.AtSite.{AtSite}
 use Rattle.ca_flow.specs.declared.instr.NodeId.{NodeId}
-use Rattle.ca_flow.specs.declared.instr.Instr.{Instr}
 use Rattle.ca_flow.specs.declared.instr.Instr.TheVariants as instr
-use Rattle.ca_flow.specs.declared.instr.Links.TheVariants as links
 use Rattle.ca_flow.specs.declared.instr.Step.{Step}
 use Rattle.ca_flow.specs.Graphs.{AreLinks}
-use Rattle.ca_flow.specs.Lowerings.{site_in, IsMarked, HasSite}
+use Rattle.ca_flow.specs.Lowerings.{site_in, IsMarked}
 use Rattle.ca_lower.specs.declared.builder.Builder.{Builder}
 use Rattle.ca_lower.specs.Scopes.{InFunction, InItem, IsInItem}
 use Rattle.ca_lower.specs.Lowered.{is_pending, StandsIn, Works, Marks}
-use Rattle.ca_lower.specs.Building.{around, code_at, code_in, AllMarked, AllDrawn, Grows, HasSites}
+use Rattle.ca_lower.specs.Building.{around, code_at, code_in, Grows, HasSites}
 use Rattle.ca_lower.specs.Control.{open_turn, closed_turn, Closes, HaveSites, RunStep, no_step, one_step}
 use Rattle.std.proofs.lemmas.List.Elements.{Contains-append_cases}
 use Rattle.ca_model.specs.Sites.{act_sites}
@@ -113,9 +110,9 @@ loop_grows x t old mid before after there place opened registers grows closes =
     let turn : Step = open_turn x.item in
     let stays : (n : ℕ) (at : Step) → slice_get old.steps.items n ≡ Some at → slice_get mid.steps.items n ≡ Some at = λ n at is. ap (λ g. slice_get g n) opened ∙ get_left old.steps.items (turn ∷ []) n at is in
     let either : (n : ℕ) (at : Step) → slice_get mid.steps.items n ≡ Some at → (slice_get old.steps.items n ≡ Some at) ⊎ ((n ≡ length old.steps.items) × (turn ≡ at)) =
-        λ n at is. old_or_end old.steps.items turn n at (sym (ap (λ g. slice_get g n) opened) ∙ is) in
+    λ n at is. old_or_end old.steps.items turn n at (sym (ap (λ g. slice_get g n) opened) ∙ is) in
     let longer : length old.steps.items ≤ length mid.steps.items =
-        let e : length mid.steps.items ≡ length (old.steps.items ++ (turn ∷ [])) = ap length opened in let f = length-append old.steps.items (turn ∷ []) in omega (arith, e, f) in
+    let e : length mid.steps.items ≡ length (old.steps.items ++ (turn ∷ [])) = ap length opened in let f = length-append old.steps.items (turn ∷ []) in omega (arith, e, f) in
     record {
       stands = λ g s n at is made. grows.stands g (closes.stands g s) n at (stays n at is) made;
       registers = omega (arith, registers, grows.registers, closes.registers);

@@ -1,10 +1,10 @@
 -- An item of a typed source is within the limits of lowering.
-use Rattle.std.proofs.Common.{rules, ◌≡◌, ℕ, ◌<◌, ◌≤◌, Bool, true, false, List, [], ◌∷◌, ◌++◌, length, Option, Some, None, refl, sym, ap, ◌∙◌, subst, arith, tests}
-use Rattle.std.specs.Prelude.{◌&&◌, ◌==◌, nat_lt, nat_le, Contains, slice_get}
+use Rattle.std.proofs.Common.{rules, ◌≡◌, ℕ, ◌<◌, ◌≤◌, Bool, true, false, List, [], ◌∷◌, ◌++◌, length, Option, Some, None, refl, sym, ap, ◌∙◌, subst, arith}
+use Rattle.std.specs.Prelude.{◌&&◌, nat_lt, nat_le, Contains, slice_get}
 use Rattle.std.proofs.lemmas.Option.{slice_get_within, get_or_from_slice_get}
 use Rattle.ca_tree.specs.declared.numbers.VarId.{VarId}
 use Rattle.ca_model.specs.declared.tree.Exp.{Exp, fold-roll-Exp}
-use Rattle.ca_model.specs.declared.tree.Exp.TheOpen.{Exp-F, Place-F}
+use Rattle.ca_model.specs.declared.tree.Exp.TheOpen.{Exp-F}
 use Rattle.ca_model.specs.declared.tree.Exp.TheVariants as e
 use Rattle.ca_model.specs.declared.tree.Place.{Place}
 use Rattle.ca_model.specs.declared.tree.Target.{Target}
@@ -15,7 +15,7 @@ use Rattle.ca_model.specs.declared.tree.Function.{Function}
 use Rattle.ca_model.specs.Codes.{Typed}
 use Rattle.ca_tree.specs.declared.numbers.FunId.{FunId}
 use Rattle.ca_model.specs.Bounds.{if_there, has_arguments, target_locals, target_exps, act_exps, act_locals, among, exp_among, place_among, depth, exp_depth, place_depth, takes, IsWithin, IsBounded}
-use Rattle.ca_model.proofs.Members.{in_none, in_cons, at_head, at_tail}
+use Rattle.ca_model.proofs.Members.{at_head, at_tail}
 use Rattle.ca_lower.specs.Building.{among_place, depth_to}
 use Rattle.ca_lower.specs.Acts.{is_shallow, is_shallow_place, are_shallow, fits_target, fits_result, fits_arguments, fits_act}
 
@@ -58,7 +58,6 @@ module _ (low : ℕ) where
   result_fits : (o : Option VarId) → ((x : VarId) → Contains (if_there o) x → x.0 < low) → fits_result low o ≡ true
   result_fits None sets = refl
   result_fits (Some x) sets = below_true x.0 low (sets x (at_head x []))
-
 
   target_act_fits : (t : Target) (x : Exp) → ((y : VarId) → Contains (target_locals t) y → y.0 < low) → ((y : Exp) → Contains (target_exps t ++ x ∷ []) y → IsGood y) → (fits_target low t && is_shallow low x) ≡ true
   target_act_fits t x sets reads = both_true (fits_target low t) (is_shallow low x) (target_fits t (x ∷ []) sets reads) (shallow x (reads x (behind_target t x)))

@@ -1,5 +1,5 @@
 -- Items: within which limits they are lowered, and what lowering adds for them.
-use Rattle.std.specs.Prelude.{◌≡◌, ◌≤◌, ◌<◌, drop, ℕ, ◌+◌, Bool, true, false, ◌&&◌, nat_lt, nat_le, List, [], ◌∷◌, length, Option, Some, None}
+use Rattle.std.specs.Prelude.{◌≡◌, ◌≤◌, ◌<◌, drop, ℕ, ◌+◌, Bool, true, ◌&&◌, nat_lt, nat_le, List, [], ◌∷◌, length, Option, Some, None}
 use Rattle.ca_tree.specs.declared.numbers.VarId.{VarId}
 use Rattle.ca_model.specs.declared.tree.Exp.{Exp}
 use Rattle.ca_model.specs.declared.tree.Place.{Place}

@@ -1,23 +1,19 @@
 -- A graph in the making: what lowering adds to it.
-use Rattle.std.specs.Prelude.{◌≡◌, ◌≤◌, ◌<◌, ◌+◌, ℕ, Bool, true, false, List, length, Option, Some, None, slice_get, Contains}
-use Rattle.ca_tree.specs.declared.numbers.ItemId.{ItemId}
+use Rattle.std.specs.Prelude.{◌≡◌, ◌≤◌, ◌<◌, ◌+◌, ℕ, Bool, true, false, List, length, Option, Some, None, slice_get}
 use Rattle.ca_tree.specs.declared.numbers.SiteId.{SiteId}
 use Rattle.ca_model.specs.declared.tree.Exp.{Exp}
 use Rattle.ca_model.specs.declared.tree.Place.{Place, out-Place, fold-Place}
 use Rattle.ca_model.specs.declared.tree.Item.{Item}
-use Rattle.ca_model.specs.declared.tree.Function.{Function}
 use Rattle.ca_model.specs.Bounds.{exp_among, place_among, exp_depth, place_depth}
 use Rattle.ca_model.specs.Frames.{Code}
 use Rattle.ca_model.specs.Codes.{code_of}
-use Rattle.ca_model.specs.Sites.{act_sites}
 use Rattle.ca_flow.specs.declared.instr.AtSite.{AtSite}
 use Rattle.ca_flow.specs.declared.instr.Reg.{Reg}
-use Rattle.ca_flow.specs.declared.instr.NodeId.{NodeId}
 use Rattle.ca_flow.specs.declared.instr.Instr.{Instr}
 use Rattle.ca_flow.specs.declared.instr.Links.{Links}
 use Rattle.ca_flow.specs.declared.instr.Links.TheVariants as links
 use Rattle.ca_flow.specs.declared.instr.Step.{Step}
-use Rattle.ca_flow.specs.Graphs.{link_count, is_turn, AreLinks}
+use Rattle.ca_flow.specs.Graphs.{link_count, AreLinks}
 use Rattle.ca_flow.specs.Lowerings.{site_in, acquiring_in, IsSiteOf, IsShort, IsMarked, HasSite}
 use Rattle.ca_lower.specs.declared.builder.Builder.{Builder}
 use Rattle.ca_lower.specs.Scopes.{InFunction, InItem}

@@ -1,11 +1,10 @@
 -- Control: where statements may stand, what lowering adds for them, and turns whose links are made last.
-use Rattle.std.specs.Prelude.{◌≡◌, ◌<◌, ◌≤◌, ◌+◌, ℕ, Bool, true, false, List, [], ◌∷◌, ◌++◌, map, length, drop, Option, Some, None, slice_get, slice_set, Contains}
-use Rattle.ca_model.specs.declared.tree.Act.{Act}
+use Rattle.std.specs.Prelude.{◌≡◌, ◌<◌, ◌≤◌, ◌+◌, ℕ, Bool, true, false, List, [], ◌∷◌, map, length, drop, Option, Some, None, slice_get, Contains}
 use Rattle.ca_model.specs.declared.tree.Item.{Item}
 use Rattle.ca_model.specs.declared.tree.Stmt.{Stmt}
 use Rattle.ca_model.specs.Frames.{Code}
-use Rattle.ca_model.specs.Sites.{if_any, act_sites, items_in, items_in_all, items_of}
-use Rattle.ca_model.specs.WellFormed.{is_condition, is_in_head, is_placed, all_placed}
+use Rattle.ca_model.specs.Sites.{act_sites, items_in, items_in_all, items_of}
+use Rattle.ca_model.specs.WellFormed.{is_condition, is_placed, all_placed}
 use Rattle.ca_flow.specs.declared.instr.Instr.TheVariants as instr
 use Rattle.ca_flow.specs.declared.instr.Links.TheVariants as links
 use Rattle.ca_flow.specs.declared.instr.NodeId.{NodeId}

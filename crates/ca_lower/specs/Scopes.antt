@@ -7,8 +7,7 @@ use Rattle.ca_tree.specs.declared.numbers.SiteId.{SiteId}
 use Rattle.ca_model.specs.declared.plan.Plan.{Plan}
 use Rattle.ca_model.specs.declared.tree.Item.{Item}
 use Rattle.ca_model.specs.declared.tree.Function.{Function}
-use Rattle.ca_model.specs.Frames.{Code}
-use Rattle.ca_model.specs.Codes.{Typed, code_of}
+use Rattle.ca_model.specs.Codes.{Typed}
 use Rattle.ca_model.specs.Sites.{items_of, all_items}
 use Rattle.ca_model.specs.WellFormed.{IsWellFormed}
 use Rattle.ca_model.specs.Bounds.{IsBounded}

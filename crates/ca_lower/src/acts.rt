@@ -72,12 +72,7 @@ impl Builder {
     }
 
     // A declaration without an initialiser.
-    fn zero(
-        &mut self,
-        at: &InItem<'_>,
-        x: VarId,
-        next: NodeId,
-    ) -> Result<NodeId, NoMemory>
+    fn zero(&mut self, at: &InItem<'_>, x: VarId, next: NodeId) -> Result<NodeId, NoMemory>
         requires act { at.now.item.act ≡ Act.Zero x }
         requires fits { fits_act at.now.function.locals (Act.Zero x) ≡ true }
         requires few { at.now.function.locals ≤ 128 }
@@ -410,12 +405,7 @@ impl Builder {
     }
 
     // A `pthread_mutex_lock`.
-    fn lock(
-        &mut self,
-        at: &InItem<'_>,
-        mutex: MutexId,
-        next: NodeId,
-    ) -> Result<NodeId, NoMemory>
+    fn lock(&mut self, at: &InItem<'_>, mutex: MutexId, next: NodeId) -> Result<NodeId, NoMemory>
         requires act { at.now.item.act ≡ Act.Lock mutex }
         requires fits { fits_act at.now.function.locals (Act.Lock mutex) ≡ true }
         requires few { at.now.function.locals ≤ 128 }
@@ -438,12 +428,7 @@ impl Builder {
     }
 
     // A `pthread_mutex_unlock`.
-    fn unlock(
-        &mut self,
-        at: &InItem<'_>,
-        mutex: MutexId,
-        next: NodeId,
-    ) -> Result<NodeId, NoMemory>
+    fn unlock(&mut self, at: &InItem<'_>, mutex: MutexId, next: NodeId) -> Result<NodeId, NoMemory>
         requires act { at.now.item.act ≡ Act.Unlock mutex }
         requires fits { fits_act at.now.function.locals (Act.Unlock mutex) ≡ true }
         requires few { at.now.function.locals ≤ 128 }
@@ -491,12 +476,7 @@ impl Builder {
     }
 
     // A `pthread_join`.
-    fn join(
-        &mut self,
-        at: &InItem<'_>,
-        e: &Exp,
-        next: NodeId,
-    ) -> Result<NodeId, NoMemory>
+    fn join(&mut self, at: &InItem<'_>, e: &Exp, next: NodeId) -> Result<NodeId, NoMemory>
         requires act { at.now.item.act ≡ Act.Join e.now }
         requires fits { fits_act at.now.function.locals (Act.Join e.now) ≡ true }
         requires few { at.now.function.locals ≤ 128 }
@@ -516,12 +496,7 @@ impl Builder {
     }
 
     // A `free`.
-    fn free(
-        &mut self,
-        at: &InItem<'_>,
-        e: &Exp,
-        next: NodeId,
-    ) -> Result<NodeId, NoMemory>
+    fn free(&mut self, at: &InItem<'_>, e: &Exp, next: NodeId) -> Result<NodeId, NoMemory>
         requires act { at.now.item.act ≡ Act.Free e.now }
         requires fits { fits_act at.now.function.locals (Act.Free e.now) ≡ true }
         requires few { at.now.function.locals ≤ 128 }
@@ -542,12 +517,7 @@ impl Builder {
     }
 
     // An `assert`.
-    fn assert(
-        &mut self,
-        at: &InItem<'_>,
-        e: &Exp,
-        next: NodeId,
-    ) -> Result<NodeId, NoMemory>
+    fn assert(&mut self, at: &InItem<'_>, e: &Exp, next: NodeId) -> Result<NodeId, NoMemory>
         requires act { at.now.item.act ≡ Act.Assert e.now }
         requires fits { fits_act at.now.function.locals (Act.Assert e.now) ≡ true }
         requires few { at.now.function.locals ≤ 128 }
@@ -568,12 +538,7 @@ impl Builder {
     }
 
     // A `return` of a value; control goes on nowhere.
-    fn give_back(
-        &mut self,
-        at: &InItem<'_>,
-        e: &Exp,
-        next: NodeId,
-    ) -> Result<NodeId, NoMemory>
+    fn give_back(&mut self, at: &InItem<'_>, e: &Exp, next: NodeId) -> Result<NodeId, NoMemory>
         requires act { at.now.item.act ≡ Act.Return (Some e.now) }
         requires fits { fits_act at.now.function.locals (Act.Return (Some e.now)) ≡ true }
         requires few { at.now.function.locals ≤ 128 }
@@ -655,8 +620,8 @@ impl Builder {
     {
         match at.act() {
             Act::Zero(x) => self.zero(at, *x, next),
-            Act::Set(target, _) | Act::Update(target, _, _) | Act::Malloc(target, _, _) => self
-                .work_on_target(at, target, next),
+            Act::Set(target, _) | Act::Update(target, _, _) | Act::Malloc(target, _, _) =>
+                self.work_on_target(at, target, next),
             Act::Call(None, function, es) => self.call(alloc, at, *function, es.as_slice(), next),
             Act::Call(Some(x), function, es) => self.call_into(
                 alloc,

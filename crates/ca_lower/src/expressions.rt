@@ -134,7 +134,12 @@ impl Builder {
             Exp::Negate(a) => {
                 let operand = a.get();
                 let from = home(operand, free);
-                let node = self.push(at, Instr::Negate { to: Reg(to), from }, to, Links::One(next))?;
+                let node = self.push(
+                    at,
+                    Instr::Negate { to: Reg(to), from },
+                    to,
+                    Links::One(next),
+                )?;
                 let start = self.find(operand, at, free, node)?;
                 Ok(start)
             }

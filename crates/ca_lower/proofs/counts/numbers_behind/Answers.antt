@@ -1,4 +1,4 @@
-use Rattle.std.proofs.Common.{◌≡◌, ◌≤◌, sym, ap, ◌∙◌, arith}
+use Rattle.std.proofs.Common.{ap, ◌∙◌, arith}
 use Rattle.ca_lower.specs.Counted.{Counted}
 use Rattle.ca_lower.proofs.CountedItems.{next_function, none_left, numbers_are}
 use Rattle.ca_lower.proofs.counts.numbers_behind.Goals as goal

@@ -1,8 +1,6 @@
-use Rattle.std.proofs.Common.{◌≡◌, ◌<◌, List, [], sym, ap, ◌∙◌, refl, subst, arith}
-use Rattle.std.specs.Prelude.{Contains}
-use Rattle.ca_model.specs.declared.tree.Function.{Function}
+use Rattle.std.proofs.Common.{ap, ◌∙◌, refl}
 use Rattle.ca_model.specs.Codes.{Typed}
-use Rattle.ca_lower.proofs.FunctionsAdded.{contained, graph_of_function}
+use Rattle.ca_lower.proofs.FunctionsAdded.{graph_of_function}
 use Rattle.ca_lower.proofs.functions.graph_of.Goals as goal
 
 pub returns : goal.returns

@@ -1,8 +1,7 @@
-use Rattle.std.proofs.Common.{◌≡◌, ◌≤◌, ◌+◌, sym, ap, ◌∙◌, refl, subst, arith}
+use Rattle.std.proofs.Common.{subst, arith}
 use Rattle.ca_model.specs.declared.plan.Plan.{Plan}
-use Rattle.ca_model.specs.declared.tree.Function.{Function}
 use Rattle.ca_flow.specs.Lowerings.{IsGraphUnder}
-use Rattle.ca_lower.proofs.FunctionsAdded.{one_more_graph, all_graphs}
+use Rattle.ca_lower.proofs.FunctionsAdded.{one_more_graph}
 use Rattle.ca_lower.proofs.lowering.lower.Goals as goal
 
 pub functions-preserved : goal.functions-preserved

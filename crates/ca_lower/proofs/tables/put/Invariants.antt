@@ -1,4 +1,4 @@
-use Rattle.std.proofs.Common.{◌≡◌, ◌+◌, ◌-◌, ◌≤◌, ℕ, false, get_or, length}
+use Rattle.std.proofs.Common.{◌≡◌, ◌+◌, ◌-◌, ℕ, false, get_or}
 use Rattle.std.specs.Vec.{vec_len}
 use Rattle.ca_lower.proofs.tables.put.Given as goal
 

@@ -1,4 +1,4 @@
-use Rattle.std.proofs.Common.{rules, ◌≡◌, ◌≤◌, ◌<◌, ◌+◌, ◌-◌, List, [], ◌∷◌, ◌++◌, refl, sym, ap, ◌∙◌, arith}
+use Rattle.std.proofs.Common.{rules, ◌-◌, List, [], ◌∷◌, sym, ap, ◌∙◌, arith}
 use Rattle.std.proofs.lemmas.List.{drop_all}
 use Rattle.ca_model.specs.declared.tree.Stmt.{Stmt}
 use Rattle.ca_model.specs.declared.tree.Stmt.TheVariants as st
@@ -16,7 +16,7 @@ pub run-run_else-requires : goal.run-run_else-requires
 run-run_else-requires t c = (search (rules, the_lemmas), ((if_there c.args.scope.now _ _ _ _ _ c.in-If.is c.requires.there).2, c.requires.ways))
 
 pub run-run-requires : goal.run-run-requires
-run-run-requires t c = 
+run-run-requires t c =
     let l = c.in_ok-other-in-If.ensures.grows.longer in
     (search (rules, the_lemmas), ((if_there c.args.scope.now _ _ _ _ _ (c.in-If.is ∙ ap (λ (a : Stmt). st.If c.in-If.cond a c.in-If.no) (sym c.get-inner.ensures)) c.requires.there).1, (omega (arith, l, c.requires.ways.0), omega (arith, l, c.requires.ways.1), omega (arith, l, c.requires.ways.2))))
 
@@ -115,11 +115,14 @@ run_all-statements-init t c =
     (omega arith, none_run c.args.scope.now c.args.self.now c.args.ways _ c.args.ss.now (drop_all _ c.args.ss.now (omega arith)) c.requires.ways.0 (grows_none c.args.scope.now c.args.self.now) (have_none c.args.scope.now _))
 
 pub run_all-run-requires : goal.run_all-run-requires
-run_all-run-requires t c = 
-    let l = c.statements.invariant.1.grows.longer in
-    (search (rules, the_lemmas),
-    (one_there c.args.scope.now c.args.ss.now (c.statements.left - 1) _ _ (omega (arith, c.statements.invariant.0, c.statements-test.true)) c.index-ss-left.is c.requires.there,
-    (c.statements.invariant.1.entry, omega (arith, l, c.requires.ways.1), omega (arith, l, c.requires.ways.2))))
+run_all-run-requires t c =
+    let l = c.statements.invariant.1.grows.longer in (
+      search (rules, the_lemmas),
+      (
+        one_there c.args.scope.now c.args.ss.now (c.statements.left - 1) _ _ (omega (arith, c.statements.invariant.0, c.statements-test.true)) c.index-ss-left.is c.requires.there,
+        (c.statements.invariant.1.entry, omega (arith, l, c.requires.ways.1), omega (arith, l, c.requires.ways.2)),
+      ),
+    )
 
 pub run_all-statements-preserved : goal.run_all-statements-preserved
 run_all-statements-preserved t c =

@@ -1,4 +1,4 @@
-use Rattle.std.proofs.Common.{◌≡◌, ◌≤◌, length}
+use Rattle.std.proofs.Common.{◌≤◌, length}
 use Rattle.ca_lower.specs.Control.{RunsFrom}
 use Rattle.ca_lower.proofs.builder.Builder.+control.Given as goal
 

@@ -1,8 +1,5 @@
-use Rattle.std.proofs.Common.{◌≡◌, ℕ, List, refl, sym, ap, ◌∙◌, subst, arith}
-use Rattle.std.specs.Prelude.{slice_get, Some, false}
-use Rattle.ca_model.specs.declared.tree.Exp.{out-Exp}
+use Rattle.std.proofs.Common.{◌≡◌, refl, sym, ap, ◌∙◌, arith}
 use Rattle.ca_model.specs.declared.tree.Exp.TheVariants as e
-use Rattle.ca_model.proofs.Induction.{part_out}
 use Rattle.ca_lower.proofs.Added.{local_here, other_here, num_added, null_added, global_added, load_added, plain_aimed, both_and_added, both_or_added, branch_added, address_added, indexed_aimed, and_added, or_added, first_within, base_within, copy_added, negate_added, not_added, binary_added}
 use Rattle.ca_lower.proofs.Growing.{grows_on, sites_on, access_on}
 use Rattle.ca_lower.proofs.builder.Builder.+lower_exp.Goals as goal

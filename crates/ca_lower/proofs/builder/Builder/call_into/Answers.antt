@@ -1,6 +1,4 @@
-use Rattle.std.proofs.Common.{◌≡◌, ◌≤◌, ◌<◌, ◌+◌, refl, sym, ap, ◌∙◌, arith}
-use Rattle.ca_model.specs.declared.tree.Exp.{Exp}
-use Rattle.std.specs.Prelude.{List}
+use Rattle.std.proofs.Common.{refl, arith}
 use Rattle.ca_lower.proofs.Growing.{grows_on}
 use Rattle.ca_lower.proofs.ActsAdded.{call_sets_added}
 use Rattle.ca_lower.proofs.builder.Builder.call_into.Goals as goal

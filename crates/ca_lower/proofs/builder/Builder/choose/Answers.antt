@@ -1,4 +1,4 @@
-use Rattle.std.proofs.Common.{◌≡◌, ◌≤◌, ap, sym, ◌∙◌, arith}
+use Rattle.std.proofs.Common.{ap, sym, ◌∙◌, arith}
 use Rattle.ca_model.specs.Sites.{act_sites}
 use Rattle.ca_lower.proofs.ActsAdded.{cond_added}
 use Rattle.ca_lower.proofs.builder.Builder.choose.Goals as goal

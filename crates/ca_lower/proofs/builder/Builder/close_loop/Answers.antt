@@ -1,4 +1,4 @@
-use Rattle.std.proofs.Common.{◌≡◌, ◌≤◌, ◌<◌, refl, sym, ap, ◌∙◌, arith}
+use Rattle.std.proofs.Common.{refl, arith}
 use Rattle.ca_lower.specs.Building.{around}
 use Rattle.ca_lower.proofs.Growing.{grows_on}
 use Rattle.ca_lower.proofs.Turning.{closed, closes_on, stands_closed, site_closed}

@@ -1,4 +1,4 @@
-use Rattle.std.proofs.Common.{◌≡◌, ◌≤◌, ◌<◌, ◌+◌, refl, sym, ap, ◌∙◌, inl, inr, arith}
+use Rattle.std.proofs.Common.{refl, arith}
 use Rattle.ca_lower.proofs.Growing.{grows_on}
 use Rattle.ca_lower.proofs.ActsAdded.{create_added}
 use Rattle.ca_lower.proofs.builder.Builder.create.Goals as goal

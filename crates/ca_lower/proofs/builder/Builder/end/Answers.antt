@@ -1,4 +1,4 @@
-use Rattle.std.proofs.Common.{◌≡◌, ◌≤◌, refl, arith}
+use Rattle.std.proofs.Common.{refl, arith}
 use Rattle.ca_lower.proofs.ActsAdded.{end_added}
 use Rattle.ca_lower.proofs.builder.Builder.end.Goals as goal
 

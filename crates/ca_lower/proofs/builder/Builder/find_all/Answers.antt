@@ -1,4 +1,4 @@
-use Rattle.std.proofs.Common.{◌≡◌, ◌≤◌, ◌<◌, ◌+◌, ◌-◌, refl, sym, ap, ◌∙◌, arith}
+use Rattle.std.proofs.Common.{◌-◌, arith}
 use Rattle.ca_lower.proofs.Arguments.{among_at, shallow_there, sites_from, sites_at, one_more_found, all_found}
 use Rattle.ca_lower.proofs.builder.Builder.find_all.Goals as goal
 

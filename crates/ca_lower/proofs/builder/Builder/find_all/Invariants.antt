@@ -1,4 +1,4 @@
-use Rattle.std.proofs.Common.{◌≡◌, ◌≤◌, length}
+use Rattle.std.proofs.Common.{◌≤◌, length}
 use Rattle.ca_lower.specs.Acts.{FindsFrom}
 use Rattle.ca_lower.proofs.builder.Builder.find_all.Given as goal
 

@@ -1,4 +1,4 @@
-use Rattle.std.proofs.Common.{◌≡◌, ◌≤◌, ◌<◌, ◌+◌, refl, sym, ap, ◌∙◌, inl, inr, arith}
+use Rattle.std.proofs.Common.{refl, sym, ◌∙◌, arith}
 use Rattle.ca_lower.proofs.Growing.{grows_on, grows_from, counted_down, one_on}
 use Rattle.ca_lower.proofs.ActsAdded.{free_added}
 use Rattle.ca_lower.proofs.builder.Builder.free.Goals as goal

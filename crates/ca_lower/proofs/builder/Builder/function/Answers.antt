@@ -1,5 +1,4 @@
-use Rattle.std.proofs.Common.{◌≡◌, ◌≤◌, sym, ap, ◌∙◌, refl, inr, arith}
-use Rattle.ca_model.specs.declared.tree.Item.{Item}
+use Rattle.std.proofs.Common.{ap, ◌∙◌, inr, arith}
 use Rattle.ca_model.specs.declared.tree.Function.{Function}
 use Rattle.ca_lower.specs.Scopes.{InItem}
 use Rattle.ca_lower.proofs.Growing.{grows_on}

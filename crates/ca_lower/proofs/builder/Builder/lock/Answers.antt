@@ -1,4 +1,4 @@
-use Rattle.std.proofs.Common.{◌≡◌, ◌≤◌, ◌<◌, ◌+◌, refl, sym, ap, ◌∙◌, inl, inr, arith}
+use Rattle.std.proofs.Common.{refl, arith}
 use Rattle.ca_lower.proofs.Growing.{}
 use Rattle.ca_lower.proofs.ActsAdded.{lock_added}
 use Rattle.ca_lower.proofs.builder.Builder.lock.Goals as goal

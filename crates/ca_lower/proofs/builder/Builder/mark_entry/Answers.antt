@@ -1,4 +1,4 @@
-use Rattle.std.proofs.Common.{◌≡◌, sym, ◌∙◌, refl}
+use Rattle.std.proofs.Common.{sym, ◌∙◌, refl}
 use Rattle.ca_lower.proofs.CodeOfControl.{marks_true}
 use Rattle.ca_lower.proofs.builder.Builder.mark_entry.Goals as goal
 

@@ -1,7 +1,5 @@
-use Rattle.std.proofs.Common.{◌≡◌, ◌≤◌, List, [], ◌∷◌, ◌++◌, ap, ◌∙◌, arith}
+use Rattle.std.proofs.Common.{[], ◌∷◌, ◌++◌, ap, ◌∙◌, arith}
 use Rattle.ca_tree.specs.declared.numbers.ItemId.{ItemId}
-use Rattle.ca_flow.specs.declared.instr.Step.{Step}
-use Rattle.ca_lower.specs.declared.builder.Builder.{Builder}
 use Rattle.ca_lower.proofs.Growing.{pushed}
 use Rattle.ca_lower.proofs.builder.Builder.push.Goals as goal
 

@@ -1,4 +1,4 @@
-use Rattle.std.proofs.Common.{◌≡◌, ◌≤◌, ◌<◌, ◌+◌, refl, sym, ap, ◌∙◌, inl, inr, arith}
+use Rattle.std.proofs.Common.{refl, sym, ◌∙◌, arith}
 use Rattle.ca_lower.proofs.Growing.{grows_on, grows_from, counted_down, access_on, sites_on}
 use Rattle.ca_lower.proofs.ActsAdded.{update_place_added, is_among, access_is}
 use Rattle.ca_lower.proofs.builder.Builder.update_place.Goals as goal

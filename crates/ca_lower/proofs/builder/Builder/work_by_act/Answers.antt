@@ -1,4 +1,3 @@
-use Rattle.std.proofs.Common.{◌≡◌, ◌≤◌}
 use Rattle.ca_lower.proofs.CodeOfActs.{ends_work}
 use Rattle.ca_lower.proofs.builder.Builder.work_by_act.Goals as goal
 

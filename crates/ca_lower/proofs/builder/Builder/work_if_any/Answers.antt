@@ -1,6 +1,3 @@
-use Rattle.std.proofs.Common.{◌≡◌, ◌≤◌, ◌<◌, refl, sym, ap, ◌∙◌, subst, arith}
-use Rattle.ca_lower.specs.Scopes.{InFunction, InItem}
-use Rattle.ca_lower.specs.Building.{around, Grows}
 use Rattle.ca_lower.proofs.Growing.{grows_on}
 use Rattle.ca_lower.proofs.Turning.{none_steps, item_steps, grows_in}
 use Rattle.ca_lower.proofs.builder.Builder.work_if_any.Goals as goal
