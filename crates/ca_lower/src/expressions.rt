@@ -171,8 +171,8 @@ impl Builder {
                 let second = b.get();
                 let one = self.flag(at, to, 1, next)?;
                 let other = self.flag(at, to, 0, next)?;
-                let middle = self.decide(second, at, free, one, other)?;
-                let start = self.decide(first, at, free, middle, other)?;
+                let right = self.decide(second, at, free, one, other)?;
+                let start = self.decide(first, at, free, right, other)?;
                 Ok(start)
             }
             Exp::Or(a, b) => {

@@ -104,20 +104,20 @@ aim-returns-in_ok-start-in-Some-clause-adds t c g width le stands =
 pub set-returns-in_ok-start-in-And-clause-adds : goal.set-returns-in_ok-start-in-And-clause-adds
 set-returns-in_ok-start-in-And-clause-adds t c g width le stands =
     let by_middle = c.in_ok-start-in-And.ensures.grows.stands g stands in
-    let by_other = c.in_ok-middle-in-And.ensures.grows.stands g by_middle in
+    let by_other = c.in_ok-right-in-And.ensures.grows.stands g by_middle in
     let by_one = c.in_ok-other-in-And.ensures.grows.stands g by_other in
     let is : c.args.e.now ≡ e.And c.get-first-in-And.result.now c.get-second-in-And.result.now =
     c.in-And.is ∙ (ap (λ a. e.And a c.in-And.b) (sym c.get-first-in-And.ensures) ∙ ap (λ b. e.And c.get-first-in-And.result.now b) (sym c.get-second-in-And.ensures)) in
     and_added _ g _ _ _ _ _ _ _ _ c.args.next _ _ _ _ _ is
-    (omega (arith, le, c.in_ok-one-in-And.ensures.wide, c.in_ok-other-in-And.ensures.grows.registers, c.in_ok-middle-in-And.ensures.grows.registers, c.in_ok-start-in-And.ensures.grows.registers))
+    (omega (arith, le, c.in_ok-one-in-And.ensures.wide, c.in_ok-other-in-And.ensures.grows.registers, c.in_ok-right-in-And.ensures.grows.registers, c.in_ok-start-in-And.ensures.grows.registers))
     (both_and_added _ g _ _ _ _ _ _ _ _ _ _ c.get-first-in-And.result.now c.get-second-in-And.result.now c.requires.locals is
     c.in_ok-start-in-And.ensures.site (c.in_ok-start-in-And.ensures.adds g width le stands)
-    (c.in_ok-middle-in-And.ensures.adds g width (omega (arith, le, c.in_ok-start-in-And.ensures.grows.registers)) by_middle))
+    (c.in_ok-right-in-And.ensures.adds g width (omega (arith, le, c.in_ok-start-in-And.ensures.grows.registers)) by_middle))
     (by_one _ _ c.in_ok-one-in-And.ensures.pushed refl) (by_other _ _ c.in_ok-other-in-And.ensures.pushed refl)
 
 pub set-returns-in_ok-start-in-And-clause-grows : goal.set-returns-in_ok-start-in-And-clause-grows
 set-returns-in_ok-start-in-And-clause-grows t c =
-    grows_on _ _ _ _ c.in_ok-one-in-And.ensures.grows (grows_on _ _ _ _ c.in_ok-other-in-And.ensures.grows (grows_on _ _ _ _ c.in_ok-middle-in-And.ensures.grows c.in_ok-start-in-And.ensures.grows))
+    grows_on _ _ _ _ c.in_ok-one-in-And.ensures.grows (grows_on _ _ _ _ c.in_ok-other-in-And.ensures.grows (grows_on _ _ _ _ c.in_ok-right-in-And.ensures.grows c.in_ok-start-in-And.ensures.grows))
 
 pub set-returns-in_ok-start-in-Or-clause-adds : goal.set-returns-in_ok-start-in-Or-clause-adds
 set-returns-in_ok-start-in-Or-clause-adds t c g width le stands =
@@ -156,7 +156,7 @@ pub decide-returns-in_ok-start-in-And-clause-sites : goal.decide-returns-in_ok-s
 decide-returns-in_ok-start-in-And-clause-sites t c = sites_on _ _ _ _ _ c.in_ok-start-in-And.ensures.grows refl c.in_ok-middle-in-And.ensures.sites c.in_ok-start-in-And.ensures.sites
 
 pub set-returns-in_ok-start-in-And-clause-sites : goal.set-returns-in_ok-start-in-And-clause-sites
-set-returns-in_ok-start-in-And-clause-sites t c = sites_on _ _ _ _ _ c.in_ok-start-in-And.ensures.grows (c.in_ok-other-in-And.ensures.site ∙ c.in_ok-one-in-And.ensures.site) c.in_ok-middle-in-And.ensures.sites c.in_ok-start-in-And.ensures.sites
+set-returns-in_ok-start-in-And-clause-sites t c = sites_on _ _ _ _ _ c.in_ok-start-in-And.ensures.grows (c.in_ok-other-in-And.ensures.site ∙ c.in_ok-one-in-And.ensures.site) c.in_ok-right-in-And.ensures.sites c.in_ok-start-in-And.ensures.sites
 
 pub decide-returns-in_ok-start-in-Or-clause-sites : goal.decide-returns-in_ok-start-in-Or-clause-sites
 decide-returns-in_ok-start-in-Or-clause-sites t c = sites_on _ _ _ _ _ c.in_ok-start-in-Or.ensures.grows refl c.in_ok-middle-in-Or.ensures.sites c.in_ok-start-in-Or.ensures.sites
