@@ -1,0 +1,17 @@
+pub mod CountedItems
+pub mod Behind
+pub mod NumberTables
+pub mod Rows
+pub mod CodeOfParts
+pub mod CodeOfControl
+pub mod Growing
+pub mod Added
+pub mod Within
+pub mod MembersOf
+pub mod CodeOfActs
+pub mod ActsAdded
+pub mod Arguments
+pub mod Turning
+pub mod Placing
+pub mod StatementsAdded
+pub mod FunctionsAdded

@@ -1,0 +1,6 @@
+use Rattle.std.proofs.Common.{refl, arith}
+use Rattle.ca_lower.proofs.ActsAdded.{end_added}
+use Rattle.ca_lower.proofs.builder.Builder.end.Goals as goal
+
+pub returns-clause-adds : goal.returns-clause-adds
+returns-clause-adds c g width le stands = end_added _ g _ width c.args.at.now.function.locals (omega arith) _ c.args.at.now.item _ c.requires.act (stands _ _ c.in_ok-node.ensures.pushed refl)

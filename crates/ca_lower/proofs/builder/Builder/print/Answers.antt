@@ -1,0 +1,11 @@
+use Rattle.std.proofs.Common.{refl, arith}
+use Rattle.ca_lower.proofs.Growing.{grows_on}
+use Rattle.ca_lower.proofs.ActsAdded.{print_added}
+use Rattle.ca_lower.proofs.builder.Builder.print.Goals as goal
+
+pub returns-clause-adds : goal.returns-clause-adds
+returns-clause-adds c g width le stands =
+    print_added _ g _ width _ (omega (arith, c.locals-low.ensures)) _ _ _ c.args.next _ _ c.args.text.now _ c.args.es.now _ c.requires.act (omega (arith, c.requires.site, c.in_ok-node.ensures.site, c.in_ok-start.ensures.site)) c.in_ok-copied.ensures c.in_ok-homes.ensures.value (c.in_ok-start.ensures.adds g width le stands) (c.in_ok-start.ensures.grows.stands g stands _ _ c.in_ok-node.ensures.pushed refl)
+
+pub returns-clause-grows : goal.returns-clause-grows
+returns-clause-grows c = grows_on _ _ _ _ c.in_ok-node.ensures.grows c.in_ok-start.ensures.grows

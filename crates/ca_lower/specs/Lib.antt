@@ -1,0 +1,7 @@
+pub mod Counted
+pub mod Scopes
+pub mod Lowered
+pub mod Building
+pub mod Acts
+pub mod Control
+pub mod GraphsSoFar
