@@ -8,6 +8,8 @@ mod expression_tests;
 #[cfg(test)]
 mod expression_types;
 #[cfg(test)]
+mod graph_tests;
+#[cfg(test)]
 mod program_tests;
 #[cfg(test)]
 mod sources;

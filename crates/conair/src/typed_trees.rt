@@ -196,7 +196,7 @@ fn answer(alloc: Global, text: &[u8]) -> Result<String, AllocError> {
 }
 
 // A struct, an array of pointers, loops in one another, and a prototype.
-const LIST: &[u8] = b"struct node { int v; struct node *next; };
+pub(crate) const LIST: &[u8] = b"struct node { int v; struct node *next; };
 struct node *row[3];
 int sum(struct node *n, int k);
 int main(void) {
@@ -359,40 +359,42 @@ fn sites(alloc: Global, numbers: &[u32]) -> Result<Listed<SiteId>, AllocError> {
     Ok(Listed::from_vec(all))
 }
 
-// A limit, the items with a save behind them, the functions with a save at their entry, the sites, the acquiring items,
-// and whether this fits the list's source.
-type Case<'a> = (u32, &'a [u32], &'a [u32], &'a [u32], &'a [u32], bool);
+/// A limit, the items with a save behind them, the functions with a save at their entry, the sites, the acquiring items.
+pub(crate) type Planned<'a> = (u32, &'a [u32], &'a [u32], &'a [u32], &'a [u32]);
+
+// A plan, and whether it fits the list's source.
+type Case<'a> = (Planned<'a>, bool);
 
 const PLANS: [Case<'static>; 23] = [
-    (0, &[], &[], &[], &[], true),
-    (10000, &[], &[], &[], &[], true),
-    (10001, &[], &[], &[], &[], false),
+    ((0, &[], &[], &[], &[]), true),
+    ((10000, &[], &[], &[], &[]), true),
+    ((10001, &[], &[], &[], &[]), false),
     // a store through an index or a pointer, and a call
-    (3, &[6, 7, 12, 13], &[], &[], &[], true),
+    ((3, &[6, 7, 12, 13], &[], &[], &[]), true),
     // into a local, a condition, a return, a closing brace
-    (3, &[2], &[], &[], &[], false),
-    (3, &[5], &[], &[], &[], false),
-    (3, &[11], &[], &[], &[], false),
-    (3, &[14], &[], &[], &[], false),
-    (3, &[15], &[], &[], &[], false),
-    (3, &[0], &[], &[], &[], false),
-    (3, &[20], &[], &[], &[], false),
-    (3, &[7, 6], &[], &[], &[], false),
-    (3, &[7, 7], &[], &[], &[], false),
-    (3, &[], &[0, 1], &[], &[], true),
-    (3, &[], &[1, 0], &[], &[], false),
-    (3, &[], &[2], &[], &[], false),
+    ((3, &[2], &[], &[], &[]), false),
+    ((3, &[5], &[], &[], &[]), false),
+    ((3, &[11], &[], &[], &[]), false),
+    ((3, &[14], &[], &[], &[]), false),
+    ((3, &[15], &[], &[], &[]), false),
+    ((3, &[0], &[], &[], &[]), false),
+    ((3, &[20], &[], &[], &[]), false),
+    ((3, &[7, 6], &[], &[], &[]), false),
+    ((3, &[7, 7], &[], &[], &[]), false),
+    ((3, &[], &[0, 1], &[], &[]), true),
+    ((3, &[], &[1, 0], &[], &[]), false),
+    ((3, &[], &[2], &[], &[]), false),
     // a store, a load and a store, a load, a load and a store, a load, two loads
-    (3, &[], &[], &[1, 2, 3, 4, 5, 6, 7, 8, 9], &[], true),
-    (3, &[], &[], &[10], &[], false),
-    (3, &[], &[], &[0], &[], false),
-    (3, &[], &[], &[2, 2], &[], false),
-    (3, &[], &[], &[], &[6], true),
-    (3, &[], &[], &[], &[7], false),
-    (3, &[7], &[1], &[9], &[6], true),
+    ((3, &[], &[], &[1, 2, 3, 4, 5, 6, 7, 8, 9], &[]), true),
+    ((3, &[], &[], &[10], &[]), false),
+    ((3, &[], &[], &[0], &[]), false),
+    ((3, &[], &[], &[2, 2], &[]), false),
+    ((3, &[], &[], &[], &[6]), true),
+    ((3, &[], &[], &[], &[7]), false),
+    ((3, &[7], &[1], &[9], &[6]), true),
 ];
 
-fn plan_of(alloc: Global, case: Case<'static>) -> Result<Plan, AllocError> {
+pub(crate) fn plan_of(alloc: Global, case: Planned<'static>) -> Result<Plan, AllocError> {
     Ok(Plan {
         limit: case.0,
         saves_after: items(alloc, case.1)?,
@@ -411,8 +413,8 @@ fn these_plans_fit_the_list(rt: HostRuntime) -> Result<(), Fail> {
         return Ok(());
     };
     for case in PLANS {
-        let plan = plan_of(alloc, case)?;
-        assert_eq!(rt; fits(&source, &plan), case.5);
+        let plan = plan_of(alloc, case.0)?;
+        assert_eq!(rt; fits(&source, &plan), case.1);
     }
     assert!(rt; fits(&source, &Plan::empty(alloc)));
     assert_eq!(rt; Plan::empty(alloc).limit, 0);
