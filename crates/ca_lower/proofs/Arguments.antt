@@ -10,7 +10,7 @@ use Rattle.ca_lower.specs.Scopes.{InItem}
 use Rattle.ca_lower.specs.Lowered.{FindsAll}
 use Rattle.ca_lower.specs.Building.{code_at, around, Grows, HasSites, AddsFind}
 use Rattle.ca_lower.specs.Acts.{is_shallow, are_shallow, AddsFindAll, FindsFrom}
-use Rattle.ca_lower.proofs.CountedItems.{from_next}
+use Rattle.ca_tables.proofs.CountedItems.{from_next}
 use Rattle.ca_lower.proofs.Growing.{grows_on, sites_on}
 use Rattle.ca_lower.proofs.Added.{home_within}
 use Rattle.ca_lower.proofs.ActsAdded.{left_true, right_true}

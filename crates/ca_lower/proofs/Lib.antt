@@ -1,6 +1,3 @@
-pub mod CountedItems
-pub mod Behind
-pub mod NumberTables
 pub mod Rows
 pub mod CodeOfParts
 pub mod CodeOfControl

@@ -18,7 +18,7 @@ use Rattle.ca_flow.specs.declared.instr.Step.{Step}
 use Rattle.ca_lower.specs.Scopes.{InFunction}
 use Rattle.ca_lower.specs.Control.{AreOf, StandsThere, StandThere, MayStandThere, IsConditionThere, IsWorkThere, MayWorkThere, HaveSites}
 use Rattle.ca_lower.proofs.ActsAdded.{left_true, right_true}
-use Rattle.ca_lower.proofs.CountedItems.{joined_items}
+use Rattle.ca_tables.proofs.CountedItems.{joined_items}
 use Rattle.ca_lower.proofs.Turning.{have_none, have_both}
 
 simple_tests_nothing : (a : Act) → is_simple a ≡ true → is_condition a ≡ false

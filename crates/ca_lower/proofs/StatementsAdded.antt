@@ -12,7 +12,7 @@ use Rattle.ca_lower.specs.Scopes.{InFunction, InItem}
 use Rattle.ca_lower.specs.Lowered.{Works, Chooses, Marks, Runs}
 use Rattle.ca_lower.specs.Building.{code_in, code_at, Grows}
 use Rattle.ca_lower.specs.Control.{RunAll, no_more, one_more, RunElse, without, with, RunStep, Turns, RunLoop, AddsAll, AddsRuns, RunsFrom, HaveSites}
-use Rattle.ca_lower.proofs.CountedItems.{from_next}
+use Rattle.ca_tables.proofs.CountedItems.{from_next}
 use Rattle.ca_lower.proofs.Growing.{grows_on}
 use Rattle.ca_lower.proofs.Turning.{at_item, have_kept, have_both}
 use Rattle.ca_lower.proofs.CodeOfControl.{runs_item, runs_block, runs_if, runs_while, runs_do, runs_for, runs_break, runs_continue}

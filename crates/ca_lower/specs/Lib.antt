@@ -1,4 +1,3 @@
-pub mod Counted
 pub mod Scopes
 pub mod Lowered
 pub mod Building

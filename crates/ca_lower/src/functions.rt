@@ -10,9 +10,9 @@ ghost use Rattle.ca_lower.specs.Control.{AddsEntry, AddsFunction, HaveSites};
 use crate::builder::Builder;
 use crate::scopes::{InFunction, InItem};
 use crate::statements::Ways;
-use crate::tables::Tables;
 use ca_flow::{Graph, Instr, Links, NodeId};
 use ca_model::Checked;
+use ca_tables::Tables;
 use ca_tree::{FunId, NoMemory};
 use std::alloc::Global;
 

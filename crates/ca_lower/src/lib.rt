@@ -3,12 +3,10 @@
 
 mod acts;
 mod builder;
-mod counts;
 mod expressions;
 mod functions;
 mod lowering;
 mod scopes;
 mod statements;
-mod tables;
 
 pub use lowering::lower;

@@ -4,9 +4,9 @@ ghost use Rattle.std.specs.Prelude.{◌≡◌, IfOk};
 ghost use Rattle.ca_model.specs.Plans.{Fits};
 
 use crate::functions::graph_of;
-use crate::tables::Tables;
 use ca_flow::Code;
 use ca_model::{Checked, Plan};
+use ca_tables::Tables;
 use ca_tree::{FunId, NoMemory};
 use std::alloc::Global;
 

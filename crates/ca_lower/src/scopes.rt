@@ -8,9 +8,9 @@ ghost use Rattle.ca_lower.specs.Scopes.{IsInFunction, IsInItem};
 ghost use Rattle.ca_lower.specs.Acts.{fits_act, behind_of};
 ghost use Rattle.ca_lower.specs.Building.{code_at, code_in, IsSiteMark, around};
 
-use crate::tables::Tables;
 use ca_flow::AtSite;
 use ca_model::{Act, Function, Item};
+use ca_tables::Tables;
 use ca_tree::{ItemId, SiteId};
 use std::marker::Model;
 

@@ -1,6 +1,0 @@
-use Rattle.ca_tree.specs.declared.numbers.ItemId.{ItemId}
-use Rattle.ca_lower.proofs.NumberTables.{TellsSoFar}
-use Rattle.ca_lower.proofs.tables.table_of_items.Given as goal
-
-abbrev pub invariant-items : goal.invariant-items
-invariant-items l = TellsSoFar l.table.items (λ (item : ItemId). item.0) l.item-index l.items
