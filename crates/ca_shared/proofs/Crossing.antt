@@ -12,7 +12,6 @@ use Rattle.ca_memory.specs.contracts.blocks.Slot as slot
 use Rattle.ca_memory.specs.contracts.memory.Memory as memory
 use Rattle.ca_memory.specs.contracts.owners.Owners as owners
 use Rattle.ca_shared.specs.contracts.threads.Progress as progress
-use Rattle.ca_shared.specs.contracts.phase.Phase as phase
 use Rattle.ca_shared.specs.contracts.shared.Shared as shared
 use Rattle.ca_model.proofs.CrossingTrees.{list_send, list_sync}
 
