@@ -13,7 +13,6 @@ use Rattle.ca_model.specs.declared.values.Given.{Given}
 use Rattle.ca_model.specs.declared.values.Given.TheVariants as given
 use Rattle.ca_model.specs.Shared.{Blocks, Block, insert_if, died, IsHeapStart}
 use Rattle.ca_model.proofs.Cells.{get_here, get_there}
-use Rattle.ca_model.proofs.Law.{get_one}
 use Rattle.ca_memory.specs.declared.blocks.Slot.{Slot}
 use Rattle.ca_memory.specs.Kept.{blocks_of}
 use Rattle.ca_memory.specs.Zeros.{start_of}

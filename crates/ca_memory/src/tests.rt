@@ -200,6 +200,7 @@ fn the_first_thing_that_is_not_held_is_found(rt: HostRuntime) -> Result<(), Fail
         memory.first_not_held(&[block(2), block(1)]),
         Some(BlockNotHeld { place: 1, block: 1 })
     );
+    assert!(rt; owners.count() == 3);
     assert_eq!(rt; owners.owner(MutexId(0)), Some(5));
     assert_eq!(rt; memory.live_cells(), 1);
     Ok(())

@@ -1,4 +1,4 @@
-use Rattle.std.proofs.Common.{◌≡◌, ◌≤◌, ◌<◌, Some, length, take, arith, ap, ◌∙◌}
+use Rattle.std.proofs.Common.{◌<◌, Some, length, take, arith, ap, ◌∙◌}
 use Rattle.std.proofs.lemmas.Option.{slice_get-get_or}
 use Rattle.ca_memory.specs.Kept.{blocks_of}
 use Rattle.ca_memory.proofs.Hiding.{unchanged, first_found, all_found}
