@@ -10,6 +10,8 @@ mod expression_types;
 #[cfg(test)]
 mod graph_tests;
 #[cfg(test)]
+mod opening_tests;
+#[cfg(test)]
 mod program_tests;
 #[cfg(test)]
 mod sources;
