@@ -16,7 +16,6 @@ use Rattle.ca_tree.specs.declared.numbers.ItemId.{ItemId}
 use Rattle.ca_flow.specs.declared.instr.Step.{Step}
 use Rattle.ca_flow.specs.declared.instr.Reg.{Reg}
 use Rattle.ca_flow.specs.declared.instr.NodeId.{NodeId}
-use Rattle.ca_flow.specs.declared.instr.Instr.{Instr}
 use Rattle.ca_flow.specs.declared.instr.Instr.TheVariants as instr
 use Rattle.ca_flow.specs.declared.instr.Links.TheVariants as links
 use Rattle.ca_lower.specs.Lowered.{Finds, Sets, Decides, Aims, home, home_of}
@@ -29,9 +28,6 @@ use Rattle.ca_tree.specs.declared.numbers.GlobalId.{GlobalId}
 use Rattle.ca_flow.specs.declared.instr.AtSite.{AtSite}
 use Rattle.ca_flow.specs.Instructions.{site_of}
 use Rattle.ca_lower.proofs.CodeOfParts.{At, finds_local, finds_set, sets_given, sets_negate, sets_not, sets_binary, sets_load, decides_and, decides_or, decides_branch, aims_plain, aims_indexed, spot_out, sets_address, sets_flag, and_is_flag, or_is_flag}
-
-abbrev is_put : Reg → Value → Instr
-is_put to x = instr.Put to x
 
 pub num_added : (code : Code) (g : List Step) (low width l n s to : ℕ) (m : NodeId) (z : Exp) (i : ItemId) (x : Value) (k : ℤ) → z ≡ e.Num k → x ≡ value.Num k → to < width
     → At g n (record { item = i; instr = instr.Put (record { 0 = to }) x }) (links.One m) → Sets code g low width l n m.0 to z s

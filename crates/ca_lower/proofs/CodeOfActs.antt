@@ -1,5 +1,5 @@
 -- Code of items, by what stands behind it.
-use Rattle.std.proofs.Common.{◌≡◌, ℕ, ◌+◌, ◌<◌, ◌≤◌, Bool, List, [], ◌∷◌, map, length, Option, refl, sym, ap, ◌∙◌, subst, arith}
+use Rattle.std.proofs.Common.{◌≡◌, ℕ, ◌+◌, ◌<◌, ◌≤◌, Bool, List, ◌∷◌, map, length, Option, refl, sym, ap, ◌∙◌, subst, arith}
 use Rattle.std.specs.Prelude.{ℤ, pos, ◌*ℤ◌, take, slice_set}
 use Rattle.std.proofs.lemmas.List.{length-set}
 use Rattle.ca_tree.specs.declared.numbers.VarId.{VarId}
@@ -28,7 +28,7 @@ use Rattle.ca_flow.specs.Instructions.{reg, put, on, displacement, site_of, node
 use Rattle.ca_flow.specs.Does.{Does, step}
 use Rattle.ca_flow.proofs.Doing.{then_then, then_same, does_same}
 use Rattle.ca_lower.specs.Lowered.{Kept, Finds, FindsAll, Aims, Works, Ends, home, homes}
-use Rattle.ca_lower.proofs.Rows.{kept_all, kept_on, kept_less, kept_put, kept_reg, put_here, take_put}
+use Rattle.ca_lower.proofs.Rows.{kept_on, kept_less, kept_put, kept_reg, put_here, take_put}
 use Rattle.ca_lower.proofs.CodeOfParts.{At, value_step, effect_step}
 use Rattle.ca_lower.proofs.CodeOfControl.{IndexBelow, kept_index}
 
@@ -60,9 +60,6 @@ module _ (code : Code) (g : List Step) (low width : ℕ) where
   leaves_all l n m es s lo finds = record { does = λ k r q ls wide more. finds.does k r q ls wide (λ r' h. more r' (kept_less low l r r' lo h)) }
 
   -- ---- arguments
-
-  pub finds_none : (l n s : ℕ) → FindsAll code g low width l n n [] s
-  finds_none l n s = record { does = λ k r q ls wide more. more r (kept_all l r) }
 
   pub finds_one_more : (l n j m s : ℕ) (e : Exp) (es : List Exp) → low ≤ l → home e l ≤ l → Finds code g low width l n j (home e l) e s → FindsAll code g low width (l + 1) j m es (s + (part e).sites) → FindsAll code g low width l n m (e ∷ es) s
   finds_one_more l n j m s e es lo at first rest = record {

@@ -2,7 +2,6 @@
 use Rattle.std.proofs.Common.{◌≡◌, ℕ, ◌+◌, ◌<◌, ◌≤◌, Bool, true, false, List, [], ◌∷◌, ◌++◌, map, length, Some, refl, sym, ap, ◌∙◌, subst, inl, inr, arith, length-append}
 use Rattle.std.specs.Prelude.{slice_get, Contains}
 use Rattle.std.proofs.lemmas.List.Elements.{Contains-append_left, Contains-append_right}
-use Rattle.std.proofs.lemmas.Option.{slice_get_within, get_or_from_slice_get}
 use Rattle.ca_model.specs.declared.plan.Plan.{Plan}
 use Rattle.ca_model.specs.declared.tree.Act.TheVariants as act
 use Rattle.ca_model.specs.declared.tree.Item.{Item}
@@ -19,7 +18,7 @@ use Rattle.ca_flow.specs.declared.instr.Step.{Step}
 use Rattle.ca_flow.specs.Graphs.{ControlFlow, IsDrawn, AreLinks}
 use Rattle.ca_flow.specs.Flows.{IsFlowOf}
 use Rattle.ca_flow.specs.Standing.{IsGraphOf}
-use Rattle.ca_flow.specs.Lowerings.{IsMarked, HasSite, IsGraphUnder, AreGraphsOf}
+use Rattle.ca_flow.specs.Lowerings.{IsMarked, HasSite, IsGraphUnder}
 use Rattle.ca_lower.specs.declared.builder.Builder.{Builder}
 use Rattle.ca_lower.specs.Scopes.{InFunction, InItem, IsInFunction}
 use Rattle.ca_lower.specs.Lowered.{is_pending, Ends, Marks}
@@ -109,9 +108,6 @@ graph_added x old new n g empty narrow bounded there adds grows sites steps entr
 same_function : (x y : Function) → Some x ≡ Some y → x ≡ y
 same_function x y e = cc
 
-pub contained : (fs : List Function) (k : ℕ) (f : Function) → slice_get fs k ≡ Some f → Contains fs f
-contained fs k f at = (k, slice_get_within fs k f at, get_or_from_slice_get fs k f f at)
-
 pub graph_of_function : (p : Typed) (plan : Plan) (x : InFunction) (f : Function) (k : ℕ) (fn : Function) (old new : Builder) (n : NodeId) (g : ControlFlow) → x ≡ record { source = p; plan = plan; function = f } → slice_get p.functions k ≡ Some f → slice_get p.functions k ≡ Some fn
     → old.steps.items ≡ [] → old.registers ≡ f.locals → IsBounded x.source → IsInFunction x → AddsFunction x new n.0 → Grows x old new → HaveSites x new.steps.items (items_of x.function)
     → g.steps ≡ new.steps.items → g.entry ≡ n → g.registers ≡ new.registers → IsFlowOf p fn g → IsGraphUnder p plan fn g
@@ -131,6 +127,3 @@ one_more_graph p plan gs hs g k n next is so under = record {
     | inr end ↦ subst (IsGraphUnder p plan f) end.1 (under f (ap (slice_get p.functions) (sym (end.0 ∙ so.count)) ∙ at))
   ];
 }
-
-pub all_graphs : (p : Typed) (plan : Plan) (gs : List ControlFlow) (k : ℕ) → k ≡ length p.functions → AreSoFar p plan gs k → AreGraphsOf p plan gs
-all_graphs p plan gs k all so = record { count = so.count ∙ all; each = so.each }

@@ -16,7 +16,7 @@ use Rattle.ca_model.proofs.Members.{in_one, at_head, at_tail}
 use Rattle.ca_model.proofs.StraightLines.{placed_out}
 use Rattle.ca_flow.specs.declared.instr.Step.{Step}
 use Rattle.ca_lower.specs.Scopes.{InFunction}
-use Rattle.ca_lower.specs.Control.{AreOf, StandsThere, StandThere, MayStandThere, IsConditionThere, IsWorkThere, MayWorkThere, HaveSites}
+use Rattle.ca_lower.specs.Control.{AreOf, StandsThere, StandThere, MayStandThere, IsConditionThere, MayWorkThere, HaveSites}
 use Rattle.ca_lower.proofs.ActsAdded.{left_true, right_true}
 use Rattle.ca_tables.proofs.CountedItems.{joined_items}
 use Rattle.ca_lower.proofs.Turning.{have_none, have_both}
@@ -29,18 +29,7 @@ module _ (x : InFunction) where
   placed_by : (s : Stmt) (l : Stmt-F Stmt) (b : Bool) → out-Stmt s ≡ l → is_placed x.source s b ≡ true → placed_step x.source (map-Stmt Stmt (Bool → Bool) (is_placed x.source) l) b ≡ true
   placed_by s l b is h = sym (ap (λ f. f b) (placed_out x.source s l is)) ∙ h
 
-  of_part : (is js : List Item) → AreOf x js → ((i : Item) → Contains is i → Contains js i) → AreOf x is
-  of_part is js all part i c = all i (part i c)
-
   -- ---- parts
-
-  pub item_there : (s : Stmt) (i : Item) (b : Bool) → s ≡ st.Item i → StandsThere x s b → IsWorkThere x i
-  item_there s i b is h =
-      let p = placed_by s (Stmt-F.Item i) b (ap out-Stmt is ∙ st.outs-Item i) h.placed in
-      record {
-        condition = simple_tests_nothing i.act (left_true (is_simple i.act) (knows x.source i.act) p);
-        own = h.items i (subst (λ is. Contains is i) (sym (items_out s (Stmt-F.Item i) (ap out-Stmt is ∙ st.outs-Item i))) (at_head i []));
-      }
 
   block_items : (s : Stmt) (ss : List Stmt) → s ≡ st.Block ss → items_in s ≡ items_in_all ss
   block_items s ss is = ap items_in is ∙ items_block ss ∙ joined_items ss
@@ -155,9 +144,6 @@ module _ (x : InFunction) where
     have_if s a c (Some y) is one yes' no'' =
         subst (HaveSites x g) (sym (if_else_items s a y c is)) (have_both x g (c ∷ []) (items_in a ++ items_in y) one (have_both x g (items_in a) (items_in y) yes' (no'' y refl)))
 
-    pub have_while : (s a : Stmt) (c : Item) → s ≡ st.While c a → HaveSites x g (c ∷ items_in a) → HaveSites x g (items_in s)
-    have_while s a c is h = subst (HaveSites x g) (sym (while_items s a c is)) h
-
     pub have_do : (s a : Stmt) (c : Item) → s ≡ st.Do a c → HaveSites x g (c ∷ items_in a) → HaveSites x g (items_in s)
     have_do s a c is h = subst (HaveSites x g) (sym (do_items s a c is)) (record {
       each = λ i m. elim (Contains-append_cases (items_in a) (c ∷ []) i m) [ inl body ↦ h.each i (at_tail c (items_in a) i body) | inr cond ↦ h.each i (subst (Contains (c ∷ items_in a)) (in_one c i cond) (at_head c (items_in a))) ];
@@ -165,9 +151,3 @@ module _ (x : InFunction) where
 
     pub have_for : (s a : Stmt) (first step : Option Item) (c : Item) → s ≡ st.For first c step a → HaveSites x g (if_any first) → HaveSites x g (c ∷ (if_any step ++ items_in a)) → HaveSites x g (items_in s)
     have_for s a first step c is start h = subst (HaveSites x g) (sym (for_items s a first step c is)) (have_both x g (if_any first) (c ∷ (if_any step ++ items_in a)) start h)
-
-    pub have_break : (s : Stmt) → s ≡ st.Break → HaveSites x g (items_in s)
-    have_break s is = subst (HaveSites x g) (sym (items_out s Stmt-F.Break (ap out-Stmt is ∙ st.outs-Break))) (have_none x g)
-
-    pub have_continue : (s : Stmt) → s ≡ st.Continue → HaveSites x g (items_in s)
-    have_continue s is = subst (HaveSites x g) (sym (items_out s Stmt-F.Continue (ap out-Stmt is ∙ st.outs-Continue))) (have_none x g)

@@ -11,7 +11,7 @@ use Rattle.ca_lower.specs.declared.statements.Ways.{Ways}
 use Rattle.ca_lower.specs.Scopes.{InFunction, InItem}
 use Rattle.ca_lower.specs.Lowered.{Works, Chooses, Marks, Runs}
 use Rattle.ca_lower.specs.Building.{code_in, code_at, Grows}
-use Rattle.ca_lower.specs.Control.{RunAll, no_more, one_more, RunElse, without, with, RunStep, Turns, RunLoop, AddsAll, AddsRuns, RunsFrom, HaveSites}
+use Rattle.ca_lower.specs.Control.{RunAll, no_more, one_more, RunElse, without, with, RunStep, Turns, RunLoop, AddsRuns, RunsFrom, HaveSites}
 use Rattle.ca_tables.proofs.CountedItems.{from_next}
 use Rattle.ca_lower.proofs.Growing.{grows_on}
 use Rattle.ca_lower.proofs.Turning.{at_item, have_kept, have_both}
@@ -104,9 +104,3 @@ one_more_run x old mid new n j w k k' ss s after lt is from runs grows entry sit
       sites = subst (λ (ys : List Stmt). HaveSites x new.steps.items (items_in_all ys)) (sym next')
           (have_both x new.steps.items (items_in s) (items_in_all (drop k' ss)) sites (have_kept x mid new (items_in_all (drop k' ss)) grows from.sites));
     }
-
-pub all_run : (x : InFunction) (old new : Builder) (n : ℕ) (w : Ways) (k : ℕ) (ss : List Stmt) → k ≡ 0 → RunsFrom x old new n w k ss → AddsAll x new n w ss
-all_run x old new n w k ss none' from = subst (λ j. AddsAll x new n w (drop j ss)) none' from.adds
-
-pub all_have : (x : InFunction) (old new : Builder) (n : ℕ) (w : Ways) (k : ℕ) (ss : List Stmt) → k ≡ 0 → RunsFrom x old new n w k ss → HaveSites x new.steps.items (items_in_all ss)
-all_have x old new n w k ss none' from = subst (λ j. HaveSites x new.steps.items (items_in_all (drop j ss))) none' from.sites

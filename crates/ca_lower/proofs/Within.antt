@@ -96,9 +96,6 @@ right_true : (a b : Bool) → (a && b) ≡ true → b ≡ true
 right_true true b h = h
 right_true false b h = cc
 
-up_to : (a b : ℕ) → nat_le a b ≡ true → a ≤ b
-up_to a b h = search (rules, h)
-
 call_few : (p : Typed) (f : Function) (a : Act) → IsBounded p → IsWithin p f a → (x : Option VarId) (g : FunId) (es : List Exp) → a ≡ act.Call x g es → length es ≤ 16
 call_few p f a bounded within x g es is =
     few_arguments p (slice_get p.functions g.0) (length es) (λ h at. (bounded.locals h (g.0, slice_get_within p.functions g.0 h at, get_or_from_slice_get p.functions g.0 h h at)).0) (subst (λ a. has_arguments p a ≡ true) is within.arguments)

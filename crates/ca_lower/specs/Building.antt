@@ -42,7 +42,7 @@ IsAcquiringMark code i (Some b) = b ≡ code.acquires i.id
 abbrev pub HasMarks : InItem → Instr → Type 0
 HasMarks x i = IsSiteMark (code_at x) x.item (site_in i) × IsAcquiringMark (code_at x) x.item (acquiring_in i) × IsShort i
 
--- links to nodes below n; those of a turn are still to be made
+-- as many links as an instruction has, to nodes below n
 abbrev pub LeadBelow : ℕ → Instr → Links → Type 0
 LeadBelow n i links.Nowhere = (link_count i ≡ 0)
 LeadBelow n i (links.One m) = (link_count i ≡ 1) × (m.0 < n)

@@ -10,8 +10,9 @@ use ca_tables::Tables;
 use ca_tree::{FunId, NoMemory};
 use std::alloc::Global;
 
-/// The code of a source under a plan that fits it: a graph for each function. It takes time in the size of the source and
-/// of the plan.
+/// The code of a source under a plan that fits it: for each function a graph, with at most 256 registers. `NoMemory` comes
+/// where an allocation is refused, and where the sites of the source or the nodes of a function have no numbers of 32 bits.
+/// It takes time in the size of the source and of the plan.
 pub fn lower(alloc: Global, checked: &Checked, plan: &Plan) -> Result<Code, NoMemory>
     requires fits { Fits checked.now.typed plan.now }
     ensures source { IfOk result (λ c. c.source ≡ checked.now.typed) }

@@ -35,6 +35,3 @@ stands_behind p behind i w is here =
     let at = behind_at (all_items p.functions) 0 1 1 i refl (λ k j h. let e : j.id.0 ≡ k + 1 = w.items k j h in omega (arith, e)) here in
     let place : i.id.0 ≡ suc at.0 = omega (arith, at.1) in
     ap (λ xs. slice_get xs i.id.0) is ∙ ap (slice_get (1 ∷ behind_each 1 (all_items p.functions))) place ∙ at.2
-
-pub some_number : (x y : ℕ) → Some x ≡ Some y → x ≡ y
-some_number x y e = cc
