@@ -112,7 +112,7 @@ fn value_type_shown(alloc: Global, of: ValueType) -> Result<String, AllocError> 
 
 // Its address, the index and the cells of an element, the field, and a `!` where it is a site.
 #[cycle(typed)]
-pub(crate) fn place_shown(alloc: Global, place: &Place) -> Result<String, AllocError> {
+fn place_shown(alloc: Global, place: &Place) -> Result<String, AllocError> {
     let base = shown(alloc, place.base.get())?;
     let mark = if place.through { "!" } else { "" };
     match &place.index {
@@ -126,7 +126,7 @@ pub(crate) fn place_shown(alloc: Global, place: &Place) -> Result<String, AllocE
 
 // An expression in prefix form; a load as the type that it is loaded at.
 #[cycle(typed)]
-pub(crate) fn shown(alloc: Global, exp: &TypedExp) -> Result<String, AllocError> {
+fn shown(alloc: Global, exp: &TypedExp) -> Result<String, AllocError> {
     match exp {
         TypedExp::Num(number) => format!(in alloc; "{number}"),
         TypedExp::Null => format!(in alloc; "NULL"),

@@ -8,15 +8,9 @@ mod expression_tests;
 #[cfg(test)]
 mod expression_types;
 #[cfg(test)]
-mod graph_tests;
-#[cfg(test)]
-mod opening_tests;
-#[cfg(test)]
 mod program_tests;
 #[cfg(test)]
 mod sources;
-#[cfg(test)]
-mod typed_trees;
 #[cfg(test)]
 mod types_tests;
 

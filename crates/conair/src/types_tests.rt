@@ -1,41 +1,34 @@
 //! The types of programs from their texts, worked by hand from the rules of names and types.
 use crate::sources::ALL;
 use ca_lex::{LexNo, tokens};
-use ca_model::Checked;
 use ca_read::{ReadNo, program};
 use ca_shapes::each_program_of_a_text_is_written;
 use ca_types::{TypeNo, check_types};
 use std::alloc::{AllocError, Global};
 use std::test::Fail;
 
-// The typing of a text, or the fault of types and its place.
+// "typed", or the fault of types and its place.
 #[tactic(auto, using(ca_grammar::proofs::LexedEnds::ends_once))]
-pub(crate) fn typing(alloc: Global, text: &[u8]) -> Result<Result<Checked, String>, AllocError> {
+fn answer(alloc: Global, text: &[u8]) -> Result<String, AllocError> {
     let found = match tokens(alloc, text) {
         Ok(found) => found,
         Err(LexNo::NoMemory) => return Err(AllocError),
-        Err(LexNo::Fault(_)) => return Ok(Err(format!(in alloc; "no tokens")?)),
+        Err(LexNo::Fault(_)) => return format!(in alloc; "no tokens"),
     };
     let tree = match program(alloc, &found) {
         Ok(tree) => tree,
         Err(ReadNo::NoMemory) => return Err(AllocError),
-        Err(ReadNo::Fault(_)) => return Ok(Err(format!(in alloc; "no program")?)),
+        Err(ReadNo::Fault(fault)) => {
+            return format!(in alloc; "{:?} {}:{}", fault.kind, fault.pos.line, fault.pos.column);
+        }
     };
     each_program_of_a_text_is_written();
     match check_types(alloc, tree) {
-        Ok(source) => Ok(Ok(source)),
+        Ok(_) => format!(in alloc; "typed"),
         Err(TypeNo::NoMemory) => Err(AllocError),
         Err(TypeNo::Fault(fault)) => {
-            Ok(Err(format!(in alloc; "{:?} {}:{}", fault.kind, fault.pos.line, fault.pos.column)?))
+            format!(in alloc; "{:?} {}:{}", fault.kind, fault.pos.line, fault.pos.column)
         }
-    }
-}
-
-// "typed", or the fault.
-fn answer(alloc: Global, text: &[u8]) -> Result<String, AllocError> {
-    match typing(alloc, text)? {
-        Ok(_) => format!(in alloc; "typed"),
-        Err(fault) => Ok(fault),
     }
 }
 
