@@ -55,4 +55,4 @@ module _ (g : Shared) (m : Blocks) (os : Mutexes) (threads : ℕ) (shares : IsSh
   pub retry_comes : (s : SiteId) → n ≡ next.Retry s → (a : Option EventAct) → a ≡ retrying r gives → a ≡ comes w
   retry_comes s is a e =
       let h = shown (next.Retry s) is in
-      e ∙ ap (λ q. retrying q gives) h.1 ∙ sym (ap (λ q. Some (failing q fault.Assert gives)) h.1) ∙ sym (ap comes h.0)
+      e ∙ ap (λ q. retrying q gives) h.2 ∙ sym (ap (λ q. Some (failing q fault.Assert gives)) h.2) ∙ sym (ap comes h.1)

@@ -1,40 +1,17 @@
 //! What a retry gives back.
 
-ghost use Rattle.std.specs.Prelude.{◌≡◌, ◌||◌, ◌≤◌, not, List, IfOk, drop, reverse, length};
-ghost use Rattle.std.specs.List.{list_any};
+ghost use Rattle.std.specs.Prelude.{◌≡◌, IfOk};
 ghost use Rattle.ca_model.specs.declared.values.Given.{Given as Thing};
 ghost use Rattle.ca_model.specs.Shared.{Shared};
-ghost use Rattle.ca_model.specs.Hardened.{same_given};
 ghost use Rattle.ca_model.specs.ComingEntries.{is_held};
 ghost use Rattle.ca_entries.specs.Shares.{IsSharedBy, given_back};
-ghost use Rattle.ca_entries.specs.Seen.{met};
 
 use crate::entries::Parts;
 use ca_model::{Addr, Given, Gives, Value};
 use ca_tree::{Listed, NoMemory};
+use ca_wants::is_first;
 use std::alloc::Global;
 use std::collections::BTreeSet;
-
-// Whether a thing is met for the first time.
-fn is_first(
-    mutexes: &mut BTreeSet<u32>,
-    blocks: &mut BTreeSet<u32>,
-    thing: Given,
-) -> Result<bool, NoMemory>
-    ensures first { IfOk result (λ b. b ≡ not (met mutexes.old blocks.old thing)) }
-    ensures met { IfOk result (λ b. (g : Thing) → met mutexes.new blocks.new g ≡ (same_given thing g || met mutexes.old blocks.old g)) }
-{
-    match thing {
-        Given::Mutex(m) => {
-            let first = mutexes.insert(m.0)?;
-            Ok(first)
-        }
-        Given::Block(b) => {
-            let first = blocks.insert(b)?;
-            Ok(first)
-        }
-    }
-}
 
 // Whether a thread still holds a thing: it owns the mutex, or the block of the heap is live.
 fn is_held(parts: Parts<'_>, thread: u32, thing: Given) -> bool

@@ -25,7 +25,7 @@ use Rattle.ca_model.specs.ComingEntries.{EndedBelow, gives_at, the_entry, entry_
 use Rattle.ca_model.proofs.Law.{one_of}
 use Rattle.ca_model.proofs.Members.{in_none, in_cons, at_head, at_tail}
 use Rattle.ca_model.proofs.Creates.{frames_some}
-use Rattle.ca_model.proofs.OneEntry.{DueAt, answer_some, comes_as, one_event}
+use Rattle.ca_model.proofs.OneEntry.{answer_some, comes_as, due_from, one_event}
 use Rattle.ca_model.proofs.MayCome.{Possible, decide}
 
 -- a fact that is known to hold or not to hold
@@ -96,7 +96,7 @@ module _ (P : ℕ → Type 0) (known : (n : ℕ) → Known (P n)) where
       let all = select 0 m in
       (all.list, (λ k lt. all.up k (k + 1) 0 (omega arith) lt), λ n. ((λ c. ((all.exact n).0 c).2), (λ h. (all.exact n).1 (omega arith, omega (arith, bound n h), h))))
 
-timeout_known : (a : EventAct) (w : Want) → Known (IsTimeout a w)
+pub timeout_known : (a : EventAct) (w : Want) → Known (IsTimeout a w)
 timeout_known (act.Retry site gives) (Locks m s i) = inl tt
 timeout_known _ _ = inr (λ w. w)
 
@@ -106,13 +106,9 @@ wants_block g t k r gives (Mallocs cells i) n x y e none = cc
 wants_block g t k r gives _ n x y e none = cc
 
 module _ (code : Code) (events patience : ℕ) where
-  due_from : (s : Shared) (t : ℕ) (h : Hardened) (a : EventAct) → DueAt s t (stand code h.frames).want h.saved a → HardenedDue code s t h a
-  due_from s t h (act.Retry site gives) due = due
-  due_from s t h _ due = due
-
   module _ (s : State Hardened) (past : List Event) (k : ℕ) (used : IsLeastUnused s.shared.blocks k) (few : k < 2 ^ 32) (ended : EndedBelow s.shared) (run : s.shared.phase ≡ Open) where
     -- an entry of a thread that goes on
-    comes : (t : ℕ) (h : Hardened) → slice_get s.threads t ≡ Some h → t < s.shared.threads → set.contains s.shared.ended t ≡ false
+    pub comes : (t : ℕ) (h : Hardened) → slice_get s.threads t ≡ Some h → t < s.shared.threads → set.contains s.shared.ended t ≡ false
         → (a : EventAct) → Possible code h s.shared t k (stand code h.frames).go (stand code h.frames).want a → (new : State Hardened) × Comes code events patience s t a new
     comes t h stands there going a p = (
       record { shared = effect s.shared t a; threads = threads_after (hardened code) s.threads t (stand code h.frames).want a p.after },
@@ -123,7 +119,7 @@ module _ (code : Code) (events patience : ℕ) where
           stands = stands;
           own = p.own;
           legal = record { run = run; there = there; going = going; allowed = p.allowed };
-          due = due_from s.shared t h a p.due;
+          due = due_from code s.shared t h a p.due;
           shared = refl;
           threads = refl;
         };

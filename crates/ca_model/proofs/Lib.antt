@@ -54,6 +54,7 @@ pub mod FrameCounts
 pub mod Waiting
 pub mod Retries
 pub mod Entries
+pub mod SameEvents
 pub mod OneEntry
 pub mod RunnerStates
 pub mod RunnerRuns

@@ -30,6 +30,10 @@ pub due_at : (code : Code) (s : Shared) (t : ℕ) (h : Hardened) (a : EventAct) 
 due_at code s t h (act.Retry site gives) due = due
 due_at code s t h _ due = due
 
+pub due_from : (code : Code) (s : Shared) (t : ℕ) (h : Hardened) (a : EventAct) → DueAt s t (stand code h.frames).want h.saved a → HardenedDue code s t h a
+due_from code s t h (act.Retry site gives) due = due
+due_from code s t h _ due = due
+
 pub if_some : {A : Type 0} (b : Bool) (o : Option A) (x : A) → (if b then o else None) ≡ Some x → (b ≡ true) × (o ≡ Some x)
 if_some true o x h = (refl, h)
 if_some false o x h = absurd cc
@@ -76,7 +80,7 @@ module _ (code : Code) (g : Shared) (t k : ℕ) where
 
   -- the entry of a thread with saved frames, by what it wants
   module _ (h : Hardened) (w : Want) (go : Value → Thread) (used : IsLeastUnused g.blocks k) (ended : EndedBelow g) where
-    entry_is : (a : EventAct) (x : Hardened) → hardened_by code h (record { want = w; go = go }) (may_retry code (site_of w) h.saved) a ≡ Some x → Allows g t a → DueAt g t w h.saved a → IsChosen g a
+    pub entry_is : (a : EventAct) (x : Hardened) → hardened_by code h (record { want = w; go = go }) (may_retry code (site_of w) h.saved) a ≡ Some x → Allows g t a → DueAt g t w h.saved a → IsChosen g a
         → the_entry g t k (may_retry code (site_of w) h.saved) (gives_at g t h.saved) w ≡ Some a
     entry_is act.Save x own ok due is = saving w own
       where

@@ -26,5 +26,5 @@ Shows next.Turn w r = w ≡ asks.Turns
 Shows next.End w r = w ≡ asks.Ends
 Shows (next.Fault k) w r = ((k ≡ fault.Arith) × (w ≡ asks.Faults fault.Arith)) ⊎ ((k ≡ fault.Assert) × ((s : SiteId) × (w ≡ asks.Fails s) × (r ≡ None)))
 Shows next.Save w r = w ≡ asks.Saves
-Shows (next.Retry site) w r = (w ≡ asks.Fails site) × (r ≡ Some site)
+Shows (next.Retry site) w r = (s : SiteId) × (w ≡ asks.Fails s) × (r ≡ Some site)
 Shows next.Ended w r = w ≡ asks.Ended

@@ -2,7 +2,7 @@ use Rattle.std.proofs.Common.{◌≡◌, ◌≤◌, length, drop}
 use Rattle.ca_model.specs.declared.values.Given.{Given}
 use Rattle.ca_model.specs.Shared.{Shared}
 use Rattle.ca_entries.specs.Shares.{IsSharedBy, given_back}
-use Rattle.ca_entries.specs.Seen.{met}
+use Rattle.ca_wants.specs.Met.{met}
 use Rattle.ca_entries.proofs.Giving.{stands_in}
 use Rattle.ca_entries.proofs.rollback.gives.Given as goal
 

@@ -1,0 +1,9 @@
+pub mod Silent
+pub mod Standing
+pub mod Asked
+pub mod Kept
+pub mod Privates
+pub mod Moves
+pub mod Entered
+pub mod Gives
+pub mod Changes
