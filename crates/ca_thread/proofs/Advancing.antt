@@ -50,7 +50,6 @@ pub with_acts : (f : FunId) (x : Value) (events before new : List Event) (entry 
     → with_entry (record { function = f; argument = x; entries = map (λ (e : Event). e.act) events }) event.act ≡ record { function = f; argument = x; entries = map (λ (e : Event). e.act) new }
 with_acts f x events before new entry event first same is = ap (λ es. let o : Own = record { function = f; argument = x; entries = es } in o) (sym (acts_more events before new entry event first same is))
 
-
 -- where a private state is it stands for the thread to which its entries lead
 pub stands_here : (l : Lowering) (thread : ℕ) (own : Own) (frames : List Running) (saved : Option SavedState) (there : IsThere l thread own frames saved) → StandsAs l frames saved there.state
 stands_here l thread own frames saved there = record { rows = there.stands; kept = there.keeps }

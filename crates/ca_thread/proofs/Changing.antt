@@ -64,10 +64,11 @@ want_there code h a x t = ap (λ k. (stand code k).want) t.is ∙ ap (λ g. last
 pub answer_makes : (l : Lowering) (h : Hardened) (a : EventAct) (y : Value) (taken : Option Given) (callee : Option Running) → IsAnswer a → (t : Answers (rules_of l) h.frames a y) → if_any taken ≡ taking (rules_of l) (stand (rules_of l) h.frames).want a → IsCallee l t.want callee
     → (k : Hardened) × (hardened_advance (rules_of l) h a ≡ Some k) × ((f : Frame) × (fs : List Frame) × (w : Want) × (h.frames ≡ f ∷ fs) × (begun (rules_of l) f ≡ Wants w) × IsCallee l w callee × (k ≡ record { frames = gone (rules_of l) w y f fs; saved = took (if_any taken) h.saved }))
 answer_makes l h a y taken callee is t takes begins =
-    let same : if_any taken ≡ taking (rules_of l) (last_want t.want t.rest) a = takes ∙ ap (λ w. taking (rules_of l) w a) (want_there (rules_of l) h.frames a y t) in
-    (record { frames = gone (rules_of l) t.want y t.frame t.rest; saved = took (if_any taken) h.saved },
-    answered_by (rules_of l) h a y is t ∙ ap (λ gs. let k : Hardened = record { frames = gone (rules_of l) t.want y t.frame t.rest; saved = took gs h.saved } in Some k) (sym same),
-    (t.frame, t.rest, t.want, t.is, t.asks, begins, refl))
+    let same : if_any taken ≡ taking (rules_of l) (last_want t.want t.rest) a = takes ∙ ap (λ w. taking (rules_of l) w a) (want_there (rules_of l) h.frames a y t) in (
+      record { frames = gone (rules_of l) t.want y t.frame t.rest; saved = took (if_any taken) h.saved },
+      answered_by (rules_of l) h a y is t ∙ ap (λ gs. let k : Hardened = record { frames = gone (rules_of l) t.want y t.frame t.rest; saved = took gs h.saved } in Some k) (sym same),
+      (t.frame, t.rest, t.want, t.is, t.asks, begins, refl),
+    )
 
 -- ---- a fault
 
@@ -120,7 +121,8 @@ right_list code h sv at site gives b e same saved part right =
 
 pub made_again : (l : Lowering) (h : Hardened) (sv : Saved) (at site : SiteId) (gives : List Given) (b : Bool) (count : ℕ) (rows : List Running) → Some at ≡ retry_site (rules_of l) h → at.0 ≡ site.0 → h.saved ≡ Some sv → b ≡ is_part gives (latest_first sv.taken) → b ≡ true → count ≡ tries sv site → AreStanding l rows sv.copy
     → (k : Hardened) × (hardened_advance (rules_of l) h (act.Retry site gives) ≡ Some k) × ((sv : Saved) × (h.saved ≡ Some sv) × (count + 1 ≡ tries sv site + 1) × AreStanding l rows sv.copy × (k ≡ record { frames = sv.copy; saved = Some (record { copy = sv.copy; tried = site ∷ sv.tried; taken = [] }) }))
-made_again l h sv at site gives b count rows retry same saved part right counted standing =
-    (record { frames = sv.copy; saved = Some (record { copy = sv.copy; tried = site ∷ sv.tried; taken = [] }) },
-    right_list (rules_of l) h sv at site gives b retry (eq-eqb at.0 site.0 same) saved part right,
-    (sv, saved, ap (λ (n : ℕ). n + 1) counted, standing, refl))
+made_again l h sv at site gives b count rows retry same saved part right counted standing = (
+  record { frames = sv.copy; saved = Some (record { copy = sv.copy; tried = site ∷ sv.tried; taken = [] }) },
+  right_list (rules_of l) h sv at site gives b retry (eq-eqb at.0 site.0 same) saved part right,
+  (sv, saved, ap (λ (n : ℕ). n + 1) counted, standing, refl),
+)

@@ -99,11 +99,7 @@ fn fault_change(
     }
 }
 
-fn save_change(
-    alloc: Global,
-    code: &Code,
-    frames: &[RunningFrame],
-) -> Result<Change, AdvanceNo>
+fn save_change(alloc: Global, code: &Code, frames: &[RunningFrame]) -> Result<Change, AdvanceNo>
     ensures { (h : Hardened) → AreStanding code.now frames.now h.frames → Changes code.now h (hardened_advance (rules_of code.now) h EventAct.Save) result }
 {
     if !saves_at_top(code, frames) {

@@ -211,13 +211,22 @@ impl Private {
             return Err(AdvanceNo::NotNext);
         }
         let change = match change_by(
-            self.alloc, code, &self.frames, &self.saved, &self.text, &event.act,
+            self.alloc,
+            code,
+            &self.frames,
+            &self.saved,
+            &self.text,
+            &event.act,
         ) {
             Ok(change) => change,
             Err(no) => return Err(no),
         };
         let Ok(entry) = make_room(
-            self.alloc, &mut self.frames, &mut self.events, &mut self.saved, event,
+            self.alloc,
+            &mut self.frames,
+            &mut self.events,
+            &mut self.saved,
+            event,
         ) else {
             return Err(AdvanceNo::NoMemory);
         };

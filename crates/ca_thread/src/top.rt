@@ -48,7 +48,12 @@ fn is_one(frames: &[RunningFrame]) -> bool
 }
 
 /// The answer that an entry gives to what a thread wants, if it is such an entry.
-pub(crate) fn answer_at_top(code: &Code, frames: &[RunningFrame], text: &[u8], act: &EventAct) -> Option<Value>
+pub(crate) fn answer_at_top(
+    code: &Code,
+    frames: &[RunningFrame],
+    text: &[u8],
+    act: &EventAct,
+) -> Option<Value>
     requires { IsTextAt code.now frames.now text.now }
     ensures { (h : List Frame) → AreStanding code.now frames.now h → result ≡ answer (stand (rules_of code.now) h).want act.now }
 {

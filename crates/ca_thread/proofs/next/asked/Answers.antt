@@ -33,19 +33,23 @@ returns-in-Load-clause-wanted c i w e text =
     let fits : SFits w64 c.displacement.result = search rules in
     let is : to_z w64 (of_z w64 c.displacement.result) ≡ c.displacement.result = to_z-of_z fits in
     let row = c.args.row.now in
-    let site = site_of c.in-Load.at in
-    (site, asks_as c.args.instr.now _ i row w _ c.args.last c.in-Load.is
-    (ap (λ x. Wants (Reads x (displacement row c.in-Load.index c.in-Load.field) c.in-Load.kind site)) (sym c.register.ensures) ∙ ap (λ n. Wants (Reads c.register.result n c.in-Load.kind site)) (sym (is ∙ c.displacement.ensures)))
-    (read_kept c.args.last c.register.result (to_z w64 (of_z w64 c.displacement.result)) c.in-Load.kind site) e)
+    let site = site_of c.in-Load.at in (
+      site,
+      asks_as c.args.instr.now _ i row w _ c.args.last c.in-Load.is
+          (ap (λ x. Wants (Reads x (displacement row c.in-Load.index c.in-Load.field) c.in-Load.kind site)) (sym c.register.ensures) ∙ ap (λ n. Wants (Reads c.register.result n c.in-Load.kind site)) (sym (is ∙ c.displacement.ensures)))
+          (read_kept c.args.last c.register.result (to_z w64 (of_z w64 c.displacement.result)) c.in-Load.kind site) e,
+    )
 
 pub returns-in-Store-clause-wanted : goal.returns-in-Store-clause-wanted
 returns-in-Store-clause-wanted c i w e text =
     let fits : SFits w64 c.displacement-in-Store.result = search rules in
     let is : to_z w64 (of_z w64 c.displacement-in-Store.result) ≡ c.displacement-in-Store.result = to_z-of_z fits in
     let row = c.args.row.now in
-    let site = site_of c.in-Store.at in
-    (site, asks_as c.args.instr.now _ i row w _ c.args.last c.in-Store.is
-    (ap (λ x. Wants (Writes x (displacement row c.in-Store.index c.in-Store.field) (reg row c.in-Store.from) site)) (sym c.register-in-Store.ensures)
-    ∙ (ap (λ n. Wants (Writes c.register-in-Store.result n (reg row c.in-Store.from) site)) (sym (is ∙ c.displacement-in-Store.ensures))
-    ∙ ap (λ y. Wants (Writes c.register-in-Store.result (to_z w64 (of_z w64 c.displacement-in-Store.result)) y site)) (sym c.register-in-Store-2.ensures)))
-    (write_kept c.args.last c.register-in-Store.result (to_z w64 (of_z w64 c.displacement-in-Store.result)) c.register-in-Store-2.result site) e)
+    let site = site_of c.in-Store.at in (
+      site,
+      asks_as c.args.instr.now _ i row w _ c.args.last c.in-Store.is
+          (ap (λ x. Wants (Writes x (displacement row c.in-Store.index c.in-Store.field) (reg row c.in-Store.from) site)) (sym c.register-in-Store.ensures)
+          ∙ (ap (λ n. Wants (Writes c.register-in-Store.result n (reg row c.in-Store.from) site)) (sym (is ∙ c.displacement-in-Store.ensures))
+          ∙ ap (λ y. Wants (Writes c.register-in-Store.result (to_z w64 (of_z w64 c.displacement-in-Store.result)) y site)) (sym c.register-in-Store-2.ensures)))
+          (write_kept c.args.last c.register-in-Store.result (to_z w64 (of_z w64 c.displacement-in-Store.result)) c.register-in-Store-2.result site) e,
+    )

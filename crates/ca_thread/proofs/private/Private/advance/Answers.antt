@@ -14,8 +14,8 @@ pub returns-clause-exact : goal.returns-clause-exact
 returns-clause-exact c = elim c.if-not-is_for.branch [
   | then-not-is_for+in_ok-prepare w ↦ w.in_ok-prepare.ensures.exact
   | else-not-is_for w ↦
-    let self = c.self.inside in
-    let own : Own = record { function = self.function; argument = self.argument; entries = map (λ (e : Event). e.act) self.events.items } in
-    subst (λ (t : Thread). (h : Hardened) → LeadsTo (rules_of t.code) t.own h → Tells (Ok tt) (own_advance (rules_of t.code) t.thread h c.args.event.now)) c.self.view_is
-    (told_prepared self.code.value self.thread own (vec_len self.frames < vec_capacity self.frames) (vec_len self.events < vec_capacity self.events) self.saved self.prepared c.args.event.now c.self.invariant.4 (c.is_for.ensures.0 w.if-not-is_for.false))
+      let self = c.self.inside in
+      let own : Own = record { function = self.function; argument = self.argument; entries = map (λ (e : Event). e.act) self.events.items } in
+      subst (λ (t : Thread). (h : Hardened) → LeadsTo (rules_of t.code) t.own h → Tells (Ok tt) (own_advance (rules_of t.code) t.thread h c.args.event.now)) c.self.view_is
+      (told_prepared self.code.value self.thread own (vec_len self.frames < vec_capacity self.frames) (vec_len self.events < vec_capacity self.events) self.saved self.prepared c.args.event.now c.self.invariant.4 (c.is_for.ensures.0 w.if-not-is_for.false))
 ]

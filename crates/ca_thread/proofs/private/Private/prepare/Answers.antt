@@ -32,8 +32,8 @@ invariant_of-self-2 c =
       event_place = c.in-Ok-make_room.ensures.places.1;
       places = c.in-Ok-make_room.ensures.places.2;
       goes = λ h leads.
-      subst (λ (e : Event). (k : Hardened) × (hardened_advance (rules_of m) h e.act ≡ Some k) × Makes m h c.in-Ok.change k) (sym c.in-Ok-make_room.ensures.event)
-      (goes_on l m same self.thread (own before) self.frames.items c.deref.result.now self.saved there c.deref.ensures.value c.args.event.now c.in-Ok.change c.in-Ok.ensures h (subst (λ as'. LeadsTo (rules_of m) (own as') h) acts leads));
+          subst (λ (e : Event). (k : Hardened) × (hardened_advance (rules_of m) h e.act ≡ Some k) × Makes m h c.in-Ok.change k) (sym c.in-Ok-make_room.ensures.event)
+          (goes_on l m same self.thread (own before) self.frames.items c.deref.result.now self.saved there c.deref.ensures.value c.args.event.now c.in-Ok.change c.in-Ok.ensures h (subst (λ as'. LeadsTo (rules_of m) (own as') h) acts leads));
     } in (
       subst (λ as'. IsThere m self.thread (own as') c.make_room.new.frames.items c.make_room.new.saved) (sym acts)
           (grown m self.thread (own before) self.frames.items c.make_room.new.frames.items self.saved c.make_room.new.saved there c.in-Ok-make_room.ensures.frames c.in-Ok-make_room.ensures.saved),
