@@ -64,8 +64,8 @@ fn copy_print(alloc: Global, text: &[u8]) -> Result<EventAct, NoMemory>
     Ok(EventAct::Print(Listed::from_vec(bytes)))
 }
 
-/// An entry again.
-pub(crate) fn copy_event(alloc: Global, event: &Event) -> Result<Event, NoMemory>
+/// An entry again, with lists of its own.
+pub fn copy_event(alloc: Global, event: &Event) -> Result<Event, NoMemory>
     ensures { IfOk result (λ e. e ≡ event.now) }
 {
     Ok(Event {

@@ -18,4 +18,5 @@ mod top;
 
 pub use ca_wants::Next;
 pub use changes::AdvanceNo;
+pub use entries::copy_event;
 pub use private::{Private, private_states_cross_threads};
