@@ -1,5 +1,5 @@
 -- How the words are read, as functions on lists; no public contract names them.
-use Rattle.std.specs.Prelude.{◌≡◌, ◌⊎◌, ◌==◌, ℕ, Bool, true, false, cond, not, ◌&&◌, List, [], ◌∷◌, map, Option, Some, None, codes, string_bytes}
+use Rattle.std.specs.Prelude.{◌≡◌, ◌⊎◌, ◌==◌, ℕ, Bool, true, false, cond, not, List, [], ◌∷◌, Option, Some, None, codes, string_bytes}
 use Rattle.std.specs.List.{before_first, after_first, list_any}
 use Rattle.std.specs.Str.{bytes_eq}
 use Rattle.ca_words.specs.declared.words.Key.{Key}
@@ -62,13 +62,14 @@ with_word g w =
     cond (is_bare w) (with_name g w)
     (cond (bytes_eq w (codes "--")) (Some (in_mode g mode.Names)) (cond (bytes_eq w (codes "--plain")) (with_plain g) (with_option g w)))
 
+-- the next word, by what it has to be
+abbrev pub by_mode : Gathered → List ℕ → Mode → Option Gathered
+by_mode g w mode.Options = with_word g w
+by_mode g w (mode.Value k) = with_value (in_mode g mode.Options) k w
+by_mode g w mode.Names = cond (bytes_eq w (codes "-")) None (with_name g w)
+
 abbrev pub taken : Gathered → List ℕ → Option Gathered
-taken g w =
-    elim g.mode [
-      | Options ↦ with_word g w
-      | Value k ↦ with_value (in_mode g mode.Options) k w
-      | Names ↦ cond (bytes_eq w (codes "-")) None (with_name g w)
-    ]
+taken g w = by_mode g w g.mode
 
 abbrev pub gathered : Gathered → List (List ℕ) → Option Gathered
 gathered g [] = Some g

@@ -29,7 +29,7 @@ pub data Spell : List Piece → List (List ℕ) → Type 0 where
   name : {n : List ℕ} {ps : List Piece} {ws : List (List ℕ)} → IsBare n → Spell ps ws → Spell (Name n ∷ ps) (n ∷ ws)
   plain : {ps : List Piece} {ws : List (List ℕ)} → Spell ps ws → Spell (Plain ∷ ps) (codes "--plain" ∷ ws)
   apart : {k : Key} {v : List ℕ} {ps : List Piece} {ws : List (List ℕ)} → Spell ps ws → Spell (Valued k v ∷ ps) (spelling k ∷ v ∷ ws)
-  joined : {k : Key} {v : List ℕ} {ps : List Piece} {ws : List (List ℕ)} → Spell ps ws → Spell (Valued k v ∷ ps) ((spelling k ++ codes "=" ++ v) ∷ ws)
+  joined : {k : Key} {v : List ℕ} {ps : List Piece} {ws : List (List ℕ)} → Spell ps ws → Spell (Valued k v ∷ ps) ((spelling k ++ (codes "=" ++ v)) ∷ ws)
   names : {ns : List (List ℕ)} → All (λ n. n ≢ codes "-") ns → Spell (map Name ns) (codes "--" ∷ ns)
 
 -- the names that stand there

@@ -1,5 +1,5 @@
 // The words of `run`, read one after another.
-ghost use Rattle.std.specs.Prelude.{◌≡◌, ◌≤◌, ℕ, List, All, map, length, Option, Some, None, Ok, string_bytes, IsTrue, IsSome, IfSome, IfNone, IfOk, OnOk, OnErr, IsErrOf, ◌==◌};
+ghost use Rattle.std.specs.Prelude.{◌≡◌, ◌≤◌, ◌∷◌, codes, ℕ, List, All, map, length, Option, Some, None, Ok, string_bytes, IsTrue, IsSome, IfSome, IfNone, IfOk, OnOk, OnErr, IsErrOf, ◌==◌};
 ghost use Rattle.std.specs.List.{slice_split};
 ghost use Rattle.std.specs.Fmt.{decimal};
 ghost use Rattle.std.specs.Option.{option_map};
@@ -8,7 +8,7 @@ ghost use Rattle.ca_words.specs.Gathering.{start, with_name, with_plain, with_va
 
 use ca_tree::{Listed, NoMemory};
 use itoa::Buffer;
-use std::alloc::{AllocError, AllocFailed, Global};
+use std::alloc::{AllocError, Global};
 use std::marker::Model;
 
 /// An option that has a value.
@@ -271,10 +271,10 @@ fn threads(alloc: Global, parts: &[&str]) -> Result<Option<Vec<u32>>, NoMemory>
 /// The most numbers of a schedule.
 const MOST_NUMBERS: usize = 100_000;
 
-fn parts(alloc: Global, text: &str) -> Result<Vec<&str>, NoMemory>
+fn parts(alloc: Global, text: &str) -> Result<Vec<&str>, AllocError>
     ensures { IfOk result (λ v. map (λ x. x.now) v.items ≡ slice_split (λ c. c == 44) text.now) }
 {
-    Ok(text.split(',').collect(alloc)?)
+    text.split(',').collect(alloc)
 }
 
 // A list of numbers with commas between them.
@@ -291,9 +291,9 @@ fn schedule(alloc: Global, text: &str) -> Result<Option<Vec<u32>>, NoMemory>
 
 // A number that stands there at most once.
 fn read_number(text: Option<&str>, least: u32, most: u32) -> Result<Option<u32>, WordsNo>
-    ensures found { IfOk result (λ o. IsReadAs (IsNumber least most) (option_map (λ x. x.now) text) o) }
+    ensures found { IfOk result (λ o. IsReadAs (IsNumber least most) (option_map (λ x. x.now) text.entry) o) }
     ensures misworded { OnErr result ((o : Option ℕ) →
-        IsReadAs (IsNumber least most) (option_map (λ x. x.now) text) o → ⊥) }
+        IsReadAs (IsNumber least most) (option_map (λ x. x.now) text.entry) o → ⊥) }
 {
     match text {
         Some(text) => match number(text, least, most) {
@@ -305,9 +305,9 @@ fn read_number(text: Option<&str>, least: u32, most: u32) -> Result<Option<u32>,
 }
 
 fn read_schedule(alloc: Global, text: Option<&str>) -> Result<Option<Listed<u32>>, WordsNo>
-    ensures found { IfOk result (λ o. IsReadAs IsSchedule (option_map (λ x. x.now) text) o) }
+    ensures found { IfOk result (λ o. IsReadAs IsSchedule (option_map (λ x. x.now) text.entry) o) }
     ensures misworded { IsErrOf result WordsNo.Misworded → (o : Option (List ℕ)) →
-        IsReadAs IsSchedule (option_map (λ x. x.now) text) o → ⊥ }
+        IsReadAs IsSchedule (option_map (λ x. x.now) text.entry) o → ⊥ }
 {
     let Some(text) = text else {
         return Ok(None);
@@ -356,6 +356,19 @@ fn read(alloc: Global, texts: &Texts<'_>) -> Result<RunWords, WordsNo>
     })
 }
 
+// The words behind `run`.
+fn behind_run(words: &[String]) -> Option<&[String]>
+    ensures found { IfSome result (λ behind. map string_bytes words.now ≡ codes "run" ∷ map string_bytes behind.now) }
+    ensures none { IfNone result ((behind : List (List ℕ)) → map string_bytes words.now ≡ codes "run" ∷ behind → ⊥) }
+{
+    let (command, behind) = words.split_first()?;
+    if command.as_str() == "run" {
+        Some(behind)
+    } else {
+        None
+    }
+}
+
 /// What the words of a command are, if they are `run FILE` with its options: `--plain`, `--events N`, `--schedule LIST`
 /// and `--seed N`, each at most once and in any place before a word `--`. A value stands in the next word or behind `=`.
 pub fn run_words(alloc: Global, words: &[String]) -> Result<RunWords, WordsNo>
@@ -363,12 +376,9 @@ pub fn run_words(alloc: Global, words: &[String]) -> Result<RunWords, WordsNo>
     ensures misworded { IsErrOf result WordsNo.Misworded → (o : RunOptions) →
         IsRunOf (map string_bytes words.now) o → ⊥ }
 {
-    let Some((command, behind)) = words.split_first() else {
+    let Some(behind) = behind_run(words) else {
         return Err(WordsNo::Misworded);
     };
-    if command.as_str() != "run" {
-        return Err(WordsNo::Misworded);
-    }
     let mut texts = Texts::new();
     match texts.gather(behind) {
         Ok(()) => read(alloc, &texts),
