@@ -1,8 +1,8 @@
 -- How a call ends: a cause is answered, or its answer is cut short.
-use Rattle.std.proofs.Common.{◌≡◌, ◌<◌, ℕ, List, [], ◌++◌, Option, Err, refl, sym, subst, inl, inr, arith, append-nil, ◌∙◌}
+use Rattle.std.proofs.Common.{◌≡◌, ◌<◌, ℕ, List, [], ◌∷◌, ◌++◌, Option, Err, refl, sym, subst, inl, inr, arith, append-nil, ◌∙◌}
 use Rattle.std.specs.Prelude.{◌⊎◌, ◌≢◌, Ok}
 use Rattle.ca_model.specs.Reports.{ending_status}
-use Rattle.ca_cmd.specs.Commands.{Load, Cause, Misworded, Unread, TooLong, NoTokens, NoProgram, NotBuilt, Ran, status, asked_names, out_text, err_text, memory_text, Stands}
+use Rattle.ca_cmd.specs.Commands.{IsRunOf, Load, Cause, Misworded, Unread, TooLong, NoTokens, NoProgram, NotBuilt, Ran, status, asked_names, out_text, err_text, memory_text, Stands}
 use Rattle.ca_io.specs.Ports.{PutPort, LoadPort, put_port, Wrote, WrotePart, HasFailed}
 use Rattle.ca_io.proofs.Puts.{appends_nothing, part_whole}
 use Rattle.ca_cmd.specs.declared.refusals.ServeNo.TheVariants as serve_no
@@ -37,6 +37,14 @@ small words Gives (Ran name p events last end) stands =
       | inl finished ↦ subst (λ e. ending_status e < 7) (sym finished) (omega arith)
       | inr failed ↦ subst (λ e. ending_status e < 7) (sym failed) (omega arith)
     ]
+
+module _ (words : List (List ℕ)) (files : LoadPort) (asks : AskPort) (out : PutPort) (name : List ℕ) (said : IsRunOf words name) (nothing : Wrote out []) where
+  -- memory ran out before the file was loaded, and after that
+  pub before_load : asks.new ≡ asks.old → Serves words files asks out name (Err serve_no.NoMemory)
+  before_load same = inr (name ∷ [], (name, said, refl), ([], name ∷ [], refl, same ∙ sym (append-nil asks.old)), nothing)
+
+  pub after_load : Asked asks (name ∷ []) → Serves words files asks out name (Err serve_no.NoMemory)
+  after_load asked = inr (name ∷ [], (name, said, refl), (name ∷ [], [], refl, asked), nothing)
 
 module _ (words : List (List ℕ)) (files : LoadPort) (asks : AskPort) (out err : PutPort) (result : ℕ) where
   -- a cause whose text is put to `err`, or that on want of memory

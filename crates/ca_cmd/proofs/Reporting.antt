@@ -51,7 +51,7 @@ is_of_file files name text bytes f r loaded same form runs ended =
     }
 
 module _ (words : List (List ℕ)) (files : LoadPort) (asks : AskPort) (out : PutPort) (name : List ℕ) (r : SourceRun) (said : IsRunOf words name) (asked : Asked asks (name ∷ [])) (of_file : IsOfFile files name r) where
-  cause : Cause
+  abbrev cause : Cause
   cause = Ran name of_file.source r.events.items of_file.last r.ending
 
   arises : Arises words files asks cause

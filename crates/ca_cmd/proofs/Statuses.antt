@@ -104,10 +104,10 @@ module _ (words : List (List ℕ)) (files : LoadPort) (none : HasFailedLoad file
   decided : (cause found : Cause) → Stands words (Holds files) cause → Stands words (MayGive files) found → Decides cause (status found)
   decided Misworded found stands other = misworded stands found other
   decided (Unread name) found stands other = absurd stands.1
-  decided (TooLong name) found (said, bytes, told, long) other = refused name bytes said told (λ p short form. omega (arith, long, short)) found other
-  decided (NoTokens name f) found (said, bytes, loaded, fault) other = refused name bytes said loaded.0 (λ p short form. has_tokens bytes p f form fault) found other
-  decided (NoProgram name f) found (said, bytes, ts, loaded, tokens, fault) other = refused name bytes said loaded.0 (λ p short form. is_program bytes p ts f form tokens fault) found other
-  decided (NotBuilt name) found (said, bytes, ts, a, loaded, spelled, never) other = refused name bytes said loaded.0 (λ p short form. are_first bytes p ts form spelled.0 (never p)) found other
+  decided (TooLong name) found (said, (bytes, told, long)) other = refused name bytes said told (λ p short form. omega (arith, long, short)) found other
+  decided (NoTokens name f) found (said, (bytes, loaded, fault)) other = refused name bytes said loaded.0 (λ p short form. has_tokens bytes p f form fault) found other
+  decided (NoProgram name f) found (said, (bytes, ts, loaded, tokens, fault)) other = refused name bytes said loaded.0 (λ p short form. is_program bytes p ts f form tokens fault) found other
+  decided (NotBuilt name) found (said, (bytes, ts, a, loaded, spelled, never)) other = refused name bytes said loaded.0 (λ p short form. are_first bytes p ts form spelled.0 (never p)) found other
   decided (Ran name p events last end) found (said, run) other = ran name run.bytes said run.loaded.0 p run.loaded.1 run.form found other
 
 pub decided_at : (words : List (List ℕ)) (files : LoadPort) (asks : AskPort) (out err : PutPort) (result : ℕ) → Ends words files asks out err result
