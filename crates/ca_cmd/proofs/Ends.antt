@@ -5,6 +5,7 @@ use Rattle.ca_model.specs.Reports.{ending_status}
 use Rattle.ca_cmd.specs.Commands.{IsRunOf, Load, Cause, Misworded, Unread, TooLong, NoTokens, NoProgram, NotBuilt, Ran, status, asked_names, out_text, err_text, memory_text, Stands}
 use Rattle.ca_io.specs.Ports.{PutPort, LoadPort, put_port, Wrote, WrotePart, HasFailed}
 use Rattle.ca_io.proofs.Puts.{appends_nothing, part_whole}
+use Rattle.ca_cmd.specs.declared.refusals.ServeNo.{ServeNo}
 use Rattle.ca_cmd.specs.declared.refusals.ServeNo.TheVariants as serve_no
 use Rattle.ca_cmd.specs.Serving.{AskPort, ask_port, Asked, MayGive, Arises, Answers, IsCut, Closes, Tells, Serves}
 
@@ -45,6 +46,10 @@ module _ (words : List (List ℕ)) (files : LoadPort) (asks : AskPort) (out : Pu
 
   pub after_load : Asked asks (name ∷ []) → Serves words files asks out name (Err serve_no.NoMemory)
   after_load asked = inr (name ∷ [], (name, said, refl), (name ∷ [], [], refl, asked), nothing)
+
+-- what serving answers, by the case that it is
+pub served_as : (words : List (List ℕ)) (files : LoadPort) (asks : AskPort) (out : PutPort) (name : List ℕ) (answered known : ServeNo) → answered ≡ known → Serves words files asks out name (Err answered) → Serves words files asks out name (Err known)
+served_as words files asks out name answered known is serves = subst (λ (n : ServeNo). Serves words files asks out name (Err n)) is serves
 
 module _ (words : List (List ℕ)) (files : LoadPort) (asks : AskPort) (out err : PutPort) (result : ℕ) where
   -- a cause whose text is put to `err`, or that on want of memory

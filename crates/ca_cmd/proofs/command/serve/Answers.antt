@@ -1,4 +1,4 @@
-use Rattle.std.proofs.Common.{refl}
+use Rattle.std.proofs.Common.{Err, refl, ap}
 use Rattle.ca_io.specs.Ports.{LoadPort, load_port, put_port}
 use Rattle.ca_cmd.specs.Serving.{AskPort, ask_port}
 use Rattle.ca_cmd.proofs.Ends.{wrote_nothing, before_load, after_load}
@@ -7,7 +7,7 @@ use Rattle.ca_cmd.proofs.command.serve.Goals as goal
 
 pub returns-in-Err-NoMemory-clause-served : goal.returns-in-Err-NoMemory-clause-served
 returns-in-Err-NoMemory-clause-served g c = λ words said.
-    before_load words _ _ _ c.args.name.now said (wrote_nothing g.O.Sink.written g.O.Sink.faults c.args.out.now c.args.out.now refl) (c.in-Err-NoMemory.ensures.no_memory refl)
+    before_load words _ _ _ c.args.name.now said (wrote_nothing g.O.Sink.written g.O.Sink.faults c.args.out.now c.args.out.now refl) (c.in-Err-NoMemory.ensures.no_memory (ap Err c.in-Err-NoMemory.field-0-is))
 
 pub returns-in-Err-NoMemory-read-clause-served : goal.returns-in-Err-NoMemory-read-clause-served
 returns-in-Err-NoMemory-read-clause-served g c = λ words said.
@@ -27,7 +27,7 @@ pub returns-in-Err-Failed-write_report-clause-served : goal.returns-in-Err-Faile
 returns-in-Err-Failed-write_report-clause-served g c = λ words said.
     let files : LoadPort = load_port g.F.Files.holds g.F.Files.faults c.args.files.now c.load.new.self in
     let of_file = is_of_file files c.args.name.now c.deref.result.now c.in-Ok.bytes.items c.in-Ok-read.form c.in-Ok-run.ran (c.in-Ok.ensures.whole, c.in-Ok.ensures.short) c.deref.ensures.value c.in-Ok-read.ensures.found c.in-Ok-run.ensures.is_run c.in-Ok-run.ensures.ended in
-    serves_failed words files _ _ c.args.name.now c.in-Ok-run.ran said c.in-Ok.ensures.asked_ok of_file c.in-Err-Failed-write_report.ensures.part (c.in-Err-Failed-write_report.ensures.failed refl)
+    serves_failed words files _ _ c.args.name.now c.in-Ok-run.ran said c.in-Ok.ensures.asked_ok of_file c.in-Err-Failed-write_report.ensures.part (c.in-Err-Failed-write_report.ensures.failed (ap Err c.in-Err-Failed-write_report.field-0-is))
 
 pub returns-clause-served : goal.returns-clause-served
 returns-clause-served g c = λ words said.
