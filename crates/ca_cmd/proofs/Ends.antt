@@ -1,8 +1,8 @@
 -- How a call ends: a cause is answered, or its answer is cut short.
-use Rattle.std.proofs.Common.{◌≡◌, ◌<◌, ℕ, List, [], ◌∷◌, ◌++◌, Option, Err, refl, sym, subst, inl, inr, arith, append-nil, ◌∙◌}
+use Rattle.std.proofs.Common.{◌≡◌, ◌<◌, ℕ, List, [], ◌∷◌, Option, Err, refl, sym, subst, inl, inr, arith, append-nil, ◌∙◌}
 use Rattle.std.specs.Prelude.{◌⊎◌, ◌≢◌, Ok}
 use Rattle.ca_model.specs.Reports.{ending_status}
-use Rattle.ca_cmd.specs.Commands.{IsRunOf, Load, Cause, Misworded, Unread, TooLong, NoTokens, NoProgram, NotBuilt, Ran, status, asked_names, out_text, err_text, memory_text, Stands}
+use Rattle.ca_cmd.specs.Commands.{IsRunOf, Load, Cause, Misworded, Unread, TooLong, NoTokens, NoProgram, NotBuilt, Ran, status, out_text, memory_text, Stands}
 use Rattle.ca_io.specs.Ports.{PutPort, LoadPort, put_port, Wrote, WrotePart, HasFailed}
 use Rattle.ca_io.proofs.Puts.{appends_nothing, part_whole}
 use Rattle.ca_cmd.specs.declared.refusals.ServeNo.{ServeNo}

@@ -1,9 +1,9 @@
 use Rattle.std.proofs.Common.{map, string_bytes, refl, inl}
-use Rattle.ca_io.specs.Ports.{LoadPort, load_port, put_port}
+use Rattle.ca_io.specs.Ports.{LoadPort, load_port}
 use Rattle.ca_cmd.specs.Commands.{Misworded}
-use Rattle.ca_cmd.specs.Serving.{AskPort, ask_port, cause_of}
+use Rattle.ca_cmd.specs.Serving.{cause_of}
 use Rattle.ca_cmd.specs.declared.refusals.ServeNo.TheVariants as serve_no
-use Rattle.ca_cmd.proofs.Ends.{Ends, served_as, wrote_nothing, asked_nothing, ends_told, ends_served, ends_failed, ends_starved, answered_at, cut_at, failed_at}
+use Rattle.ca_cmd.proofs.Ends.{served_as, wrote_nothing, asked_nothing, ends_told, ends_served, ends_failed, ends_starved, answered_at, cut_at}
 use Rattle.ca_cmd.proofs.Statuses.{decided_at}
 use Rattle.ca_cmd.proofs.command.command_alone.Goals as goal
 

@@ -1,8 +1,7 @@
 use Rattle.std.proofs.Common.{Err, refl, ap}
-use Rattle.ca_io.specs.Ports.{LoadPort, load_port, put_port}
-use Rattle.ca_cmd.specs.Serving.{AskPort, ask_port}
+use Rattle.ca_io.specs.Ports.{LoadPort, load_port}
 use Rattle.ca_cmd.proofs.Ends.{wrote_nothing, before_load, after_load}
-use Rattle.ca_cmd.proofs.Reporting.{IsOfFile, is_of_file, serves, serves_failed, serves_starved}
+use Rattle.ca_cmd.proofs.Reporting.{is_of_file, serves, serves_failed, serves_starved}
 use Rattle.ca_cmd.proofs.command.serve.Goals as goal
 
 pub returns-in-Err-NoMemory-clause-served : goal.returns-in-Err-NoMemory-clause-served
