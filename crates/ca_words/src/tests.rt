@@ -1,6 +1,5 @@
 // Words that are a run, and words that are refused.
 use super::{RunWords, WordsNo, run_words};
-use ca_tree::Listed;
 use std::alloc::Global;
 use std::process::Abort;
 use std::test::Fail;
