@@ -1,5 +1,5 @@
--- What a status tells, and which status comes where the contents of the file are told.
-use Rattle.std.proofs.Common.{◌≡◌, ◌≤◌, ◌<◌, ℕ, List, [], length, Option, Some, None, refl, sym, ap, subst, inl, inr, arith, ◌∙◌}
+-- Where the contents of the file are told, the causes that are there have one status.
+use Rattle.std.proofs.Common.{◌≡◌, ◌≤◌, ◌<◌, ℕ, List, length, Option, Some, None, refl, sym, ap, subst, inl, inr, arith, ◌∙◌}
 use Rattle.std.specs.Prelude.{◌⊎◌, IfSome}
 use Rattle.ca_tree.specs.declared.token.Token.{Token}
 use Rattle.ca_tree.specs.declared.token.LexFault.{LexFault}
@@ -12,18 +12,16 @@ use Rattle.ca_grammar.specs.Laws.{all_kept}
 use Rattle.ca_grammar.proofs.OneFault.{no_fault}
 use Rattle.ca_grammar.proofs.Spreading.{program_spreads}
 use Rattle.ca_lex.proofs.OneLexing.{one_list, tokens_or_fault}
-use Rattle.ca_model.specs.declared.values.FaultKind.TheVariants as fault
 use Rattle.ca_model.specs.declared.values.Ending.{Ending}
-use Rattle.ca_model.specs.declared.values.Ending.TheVariants as ending
 use Rattle.ca_model.specs.Codes.{Typed}
 use Rattle.ca_form.specs.FirstForm.{AreFirst, IsFirstForm}
 use Rattle.ca_model.specs.Reports.{ending_status}
 use Rattle.ca_cmd.specs.Commands.{source_limit, IsRunOf, Cause, Misworded, Unread, TooLong, NoTokens, NoProgram, NotBuilt, Ran, status, Stands}
 use Rattle.ca_io.specs.Outside.{IsTold}
-use Rattle.ca_io.specs.Ports.{PutPort, LoadPort, Wrote, HasFailed}
-use Rattle.ca_cmd.specs.Serving.{MayGive, Answers, Finishes, Faults, Refuses, MissesFile, Reports, IsCut, IsStatus, NoneFailed}
+use Rattle.ca_io.specs.Ports.{PutPort, LoadPort, HasFailedLoad}
+use Rattle.ca_cmd.specs.Serving.{AskPort, MayGive, Holds, NoneFailed, Decides}
 use Rattle.ca_cmd.specs.Runs.{HasEnded}
-use Rattle.ca_cmd.proofs.Ends.{Ends, IsRefusal}
+use Rattle.ca_cmd.proofs.Ends.{Ends}
 
 -- the two names that the same words have are one
 one_name : (words : List (List ℕ)) (a b : List ℕ) → IsRunOf words a → IsRunOf words b → a ≡ b
@@ -49,179 +47,73 @@ is_program bytes p ts f form tokens fault =
 are_first : (bytes : List ℕ) (p : Typed) (ts : List Token) → IsFirstForm bytes p → HasTokens bytes ts → (AreFirst ts p → ⊥) → ⊥
 are_first bytes p ts form tokens none = none (subst (λ (us : List Token). AreFirst us p) (one_list bytes form.0 ts form.2.0 tokens) form.3)
 
--- the status of a run that has ended
+run_status : (end : Ending) → HasEnded end → (ending_status end ≡ 0) ⊎ (ending_status end ≡ 1)
+run_status end (inl finished) = inl (ap ending_status finished)
+run_status end (inr failed) = inr (ap ending_status failed)
 
-module _ (words : List (List ℕ)) (files : LoadPort) (out err : PutPort) where
-  -- a run that is reported with status 0 has finished
-  is_finished : (end : Ending) → ending_status end ≡ 0 → end ≡ ending.Finished
-  is_finished ending.Finished is = refl
-  is_finished (ending.Fault k) is = cc
-  is_finished ending.Deadlock is = cc
-  is_finished ending.Unended is = cc
-  is_finished ending.Events is = cc
-  is_finished ending.Frames is = cc
+module _ (words : List (List ℕ)) (files : LoadPort) (none : HasFailedLoad files → ⊥) where
+  -- the words name this file, and it holds these bytes
+  module _ (name bytes : List ℕ) (said : IsRunOf words name) (told : files.holds name ≡ Some bytes) where
+    held_by : (other : List ℕ) → IsRunOf words other → files.holds other ≡ Some bytes
+    held_by other also = ap files.holds (one_name words other name also said) ∙ told
 
-  pub finishes : (name : List ℕ) (result : ℕ) → IsRunOf words name → Reports files name result out → result ≡ 0 → Wrote err [] → Finishes words files out err
-  finishes name result said r zero nothing =
-      let end = is_finished r.3 (sym r.5 ∙ zero) in
-      let answers : Answers words files (Ran name r.0 r.1 r.2 r.3) out err = record { stands = (said, r.4); on_out = r.6; on_err = nothing } in
-      (name, r.0, r.1, r.2, subst (λ (e : Ending). Answers words files (Ran name r.0 r.1 r.2 e) out err) end answers)
+    -- what was loaded is that
+    is_held : (other loaded : List ℕ) → IsRunOf words other → IsTold (files.holds other) loaded → loaded ≡ bytes
+    is_held other loaded also is = told_is (files.holds other) loaded bytes is (held_by other also)
 
-  -- a run that is reported with status 1 has a sum without a value
-  is_faulted : (end : Ending) → HasEnded end → ending_status end ≡ 1 → end ≡ ending.Fault fault.Arith
-  is_faulted end (inl finished) one = let zero = ap ending_status finished in absurd cc
-  is_faulted end (inr fault) one = fault
+    -- what can't be run is refused
+    refused : ((p : Typed) → length bytes ≤ source_limit → IsFirstForm bytes p → ⊥) → (found : Cause) → Stands words (MayGive files) found → status found ≡ 3
+    refused never Misworded stands = absurd (stands name said)
+    refused never (Unread other) stands = absurd (none stands.1)
+    refused never (TooLong other) stands = refl
+    refused never (NoTokens other f) stands = refl
+    refused never (NoProgram other f) stands = refl
+    refused never (NotBuilt other) stands = refl
+    refused never (Ran other p events last end) stands =
+        let same = is_held other stands.1.bytes stands.0 stands.1.loaded.0 in
+        absurd (never p (subst (λ (t : List ℕ). length t ≤ source_limit) same stands.1.loaded.1) (subst (λ (t : List ℕ). IsFirstForm t p) same stands.1.form))
 
-  pub faults : (name : List ℕ) (result : ℕ) → IsRunOf words name → Reports files name result out → result ≡ 1 → Wrote err [] → Faults words files out err
-  faults name result said r one nothing =
-      let end = is_faulted r.3 r.7 (sym r.5 ∙ one) in
-      let answers : Answers words files (Ran name r.0 r.1 r.2 r.3) out err = record { stands = (said, r.4); on_out = r.6; on_err = nothing } in
-      (name, r.0, r.1, r.2, subst (λ (e : Ending). Answers words files (Ran name r.0 r.1 r.2 e) out err) end answers)
+    -- what can be run is run
+    ran : (p : Typed) → length bytes ≤ source_limit → IsFirstForm bytes p → (found : Cause) → Stands words (MayGive files) found → (status found ≡ 0) ⊎ (status found ≡ 1)
+    ran p short form Misworded stands = absurd (stands name said)
+    ran p short form (Unread other) stands = absurd (none stands.1)
+    ran p short form (TooLong other) stands =
+        let long = told_long (files.holds other) source_limit bytes stands.1 (held_by other stands.0) in
+        absurd (omega (arith, long, short))
+    ran p short form (NoTokens other f) stands =
+        let same = is_held other stands.1.0 stands.0 stands.1.1.0 in
+        absurd (has_tokens bytes p f form (subst (λ (t : List ℕ). HasFault t f) same stands.1.2))
+    ran p short form (NoProgram other f) stands =
+        let same = is_held other stands.1.0 stands.0 stands.1.2.0 in
+        absurd (is_program bytes p stands.1.1 f form (subst (λ (t : List ℕ). HasTokens t stands.1.1) same stands.1.3) stands.1.4)
+    ran p short form (NotBuilt other) stands =
+        let same = is_held other stands.1.0 stands.0 stands.1.3.0 in
+        absurd (are_first bytes p stands.1.1 form (subst (λ (t : List ℕ). HasTokens t stands.1.1) same stands.1.4.0) (stands.1.5 p))
+    ran p short form (Ran other q events last end) stands = run_status end stands.1.ended
 
-  -- what was run is of the form
-  pub is_built : (name other bytes : List ℕ) (result : ℕ) → IsRunOf words name → Reports files name result out → IsRunOf words other → files.holds other ≡ Some bytes → ((p : Typed) → IsFirstForm bytes p → ⊥) → ⊥
-  is_built name other bytes result said r also told none =
-      let held = ap files.holds (one_name words name other said also) ∙ told in
-      let same = told_is (files.holds name) r.4.bytes bytes r.4.loaded.0 held in
-      none r.0 (subst (λ (t : List ℕ). IsFirstForm t r.0) same r.4.form)
+  misworded : ((name : List ℕ) → IsRunOf words name → ⊥) → (found : Cause) → Stands words (MayGive files) found → status found ≡ 2
+  misworded never Misworded stands = refl
+  misworded never (Unread name) stands = absurd (never name stands.0)
+  misworded never (TooLong name) stands = absurd (never name stands.0)
+  misworded never (NoTokens name f) stands = absurd (never name stands.0)
+  misworded never (NoProgram name f) stands = absurd (never name stands.0)
+  misworded never (NotBuilt name) stands = absurd (never name stands.0)
+  misworded never (Ran name p events last end) stands = absurd (never name stands.0)
 
-  pub cut_at : (result : ℕ) → Ends words files result out err → (result ≡ 7) ⊎ (result ≡ 8) → IsCut words files out err
-  cut_at result (inl (Misworded, plain, is, answers)) (inl seven) = absurd cc
-  cut_at result (inl (Misworded, plain, is, answers)) (inr eight) = absurd cc
-  cut_at result (inl (Unread name, plain, is, answers)) (inl seven) = absurd cc
-  cut_at result (inl (Unread name, plain, is, answers)) (inr eight) = absurd cc
-  cut_at result (inl (TooLong name, plain, is, answers)) (inl seven) = absurd cc
-  cut_at result (inl (TooLong name, plain, is, answers)) (inr eight) = absurd cc
-  cut_at result (inl (NoTokens name f, plain, is, answers)) (inl seven) = absurd cc
-  cut_at result (inl (NoTokens name f, plain, is, answers)) (inr eight) = absurd cc
-  cut_at result (inl (NoProgram name f, plain, is, answers)) (inl seven) = absurd cc
-  cut_at result (inl (NoProgram name f, plain, is, answers)) (inr eight) = absurd cc
-  cut_at result (inl (NotBuilt name, plain, is, answers)) (inl seven) = absurd cc
-  cut_at result (inl (NotBuilt name, plain, is, answers)) (inr eight) = absurd cc
-  cut_at result (inl (Ran name p events last end, plain, is, answers)) which = absurd plain
-  cut_at result (inr (inl (is, failed, cut))) which = cut
-  cut_at result (inr (inr (is, cut))) which = cut
+  -- a cause by what is told decides the status of one that was found
+  decided : (cause found : Cause) → Stands words (Holds files) cause → Stands words (MayGive files) found → Decides cause (status found)
+  decided Misworded found stands other = misworded stands found other
+  decided (Unread name) found stands other = absurd stands.1
+  decided (TooLong name) found (said, (bytes, told, long)) other = refused name bytes said told (λ p short form. omega (arith, long, short)) found other
+  decided (NoTokens name f) found (said, (bytes, loaded, fault)) other = refused name bytes said loaded.0 (λ p short form. has_tokens bytes p f form fault) found other
+  decided (NoProgram name f) found (said, (bytes, ts, loaded, tokens, fault)) other = refused name bytes said loaded.0 (λ p short form. is_program bytes p ts f form tokens fault) found other
+  decided (NotBuilt name) found (said, (bytes, ts, a, loaded, spelled, never)) other = refused name bytes said loaded.0 (λ p short form. are_first bytes p ts form spelled.0 (never p)) found other
+  decided (Ran name p events last end) found (said, run) other = ran name run.bytes said run.loaded.0 p run.loaded.1 run.form found other
 
-  -- what each status tells after a refusal
-  no_ran : (cause : Cause) → IsRefusal cause → (status cause ≡ 0) ⊎ (status cause ≡ 1) → ⊥
-  no_ran Misworded plain (inl zero) = absurd cc
-  no_ran Misworded plain (inr one) = absurd cc
-  no_ran (Unread name) plain (inl zero) = absurd cc
-  no_ran (Unread name) plain (inr one) = absurd cc
-  no_ran (TooLong name) plain (inl zero) = absurd cc
-  no_ran (TooLong name) plain (inr one) = absurd cc
-  no_ran (NoTokens name f) plain (inl zero) = absurd cc
-  no_ran (NoTokens name f) plain (inr one) = absurd cc
-  no_ran (NoProgram name f) plain (inl zero) = absurd cc
-  no_ran (NoProgram name f) plain (inr one) = absurd cc
-  no_ran (NotBuilt name) plain (inl zero) = absurd cc
-  no_ran (NotBuilt name) plain (inr one) = absurd cc
-  no_ran (Ran name p events last end) plain which = plain
-
-  pub no_run : (result : ℕ) → Ends words files result out err → (result ≡ 0) ⊎ (result ≡ 1) → ⊥
-  no_run result (inl (cause, plain, is, answers)) (inl zero) = no_ran cause plain (inl (sym is ∙ zero))
-  no_run result (inl (cause, plain, is, answers)) (inr one) = no_ran cause plain (inr (sym is ∙ one))
-  no_run result (inr (inl (is, failed, cut))) (inl zero) = absurd cc
-  no_run result (inr (inl (is, failed, cut))) (inr one) = absurd cc
-  no_run result (inr (inr (is, cut))) (inl zero) = absurd cc
-  no_run result (inr (inr (is, cut))) (inr one) = absurd cc
-
-  pub misworded_at : (result : ℕ) → Ends words files result out err → result ≡ 2 → Answers words files Misworded out err
-  misworded_at result (inl (Misworded, plain, is, answers)) two = answers
-  misworded_at result (inl (Unread name, plain, is, answers)) two = absurd cc
-  misworded_at result (inl (TooLong name, plain, is, answers)) two = absurd cc
-  misworded_at result (inl (NoTokens name f, plain, is, answers)) two = absurd cc
-  misworded_at result (inl (NoProgram name f, plain, is, answers)) two = absurd cc
-  misworded_at result (inl (NotBuilt name, plain, is, answers)) two = absurd cc
-  misworded_at result (inl (Ran name p events last end, plain, is, answers)) two = absurd plain
-  misworded_at result (inr (inl (is, failed, cut))) two = absurd cc
-  misworded_at result (inr (inr (is, cut))) two = absurd cc
-
-  pub refused_at : (result : ℕ) → Ends words files result out err → result ≡ 3 → Refuses words files out err
-  refused_at result (inl (Misworded, plain, is, answers)) three = absurd cc
-  refused_at result (inl (Unread name, plain, is, answers)) three = absurd cc
-  refused_at result (inl (TooLong name, plain, is, answers)) three = (name, inl answers)
-  refused_at result (inl (NoTokens name f, plain, is, answers)) three = (name, inr (inl (f, answers)))
-  refused_at result (inl (NoProgram name f, plain, is, answers)) three = (name, inr (inr (inl (f, answers))))
-  refused_at result (inl (NotBuilt name, plain, is, answers)) three = (name, inr (inr (inr answers)))
-  refused_at result (inl (Ran name p events last end, plain, is, answers)) three = absurd plain
-  refused_at result (inr (inl (is, failed, cut))) three = absurd cc
-  refused_at result (inr (inr (is, cut))) three = absurd cc
-
-  pub unread_at : (result : ℕ) → Ends words files result out err → result ≡ 6 → MissesFile words files out err
-  unread_at result (inl (Misworded, plain, is, answers)) six = absurd cc
-  unread_at result (inl (Unread name, plain, is, answers)) six = (name, answers)
-  unread_at result (inl (TooLong name, plain, is, answers)) six = absurd cc
-  unread_at result (inl (NoTokens name f, plain, is, answers)) six = absurd cc
-  unread_at result (inl (NoProgram name f, plain, is, answers)) six = absurd cc
-  unread_at result (inl (NotBuilt name, plain, is, answers)) six = absurd cc
-  unread_at result (inl (Ran name p events last end, plain, is, answers)) six = absurd plain
-  unread_at result (inr (inl (is, failed, cut))) six = absurd cc
-  unread_at result (inr (inr (is, cut))) six = absurd cc
-
-  pub failed_at : (result : ℕ) → Ends words files result out err → result ≡ 7 → HasFailed out ⊎ HasFailed err
-  failed_at result (inl (Misworded, plain, is, answers)) seven = absurd cc
-  failed_at result (inl (Unread name, plain, is, answers)) seven = absurd cc
-  failed_at result (inl (TooLong name, plain, is, answers)) seven = absurd cc
-  failed_at result (inl (NoTokens name f, plain, is, answers)) seven = absurd cc
-  failed_at result (inl (NoProgram name f, plain, is, answers)) seven = absurd cc
-  failed_at result (inl (NotBuilt name, plain, is, answers)) seven = absurd cc
-  failed_at result (inl (Ran name p events last end, plain, is, answers)) seven = absurd plain
-  failed_at result (inr (inl (is, failed, cut))) seven = failed
-  failed_at result (inr (inr (is, cut))) seven = absurd cc
-
-  pub status_of : (result : ℕ) → Ends words files result out err → IsStatus result
-  status_of result (inl (Misworded, plain, is, answers)) = inr (inr (inl is))
-  status_of result (inl (Unread name, plain, is, answers)) = inr (inr (inr (inr (inl is))))
-  status_of result (inl (TooLong name, plain, is, answers)) = inr (inr (inr (inl is)))
-  status_of result (inl (NoTokens name f, plain, is, answers)) = inr (inr (inr (inl is)))
-  status_of result (inl (NoProgram name f, plain, is, answers)) = inr (inr (inr (inl is)))
-  status_of result (inl (NotBuilt name, plain, is, answers)) = inr (inr (inr (inl is)))
-  status_of result (inl (Ran name p events last end, plain, is, answers)) = absurd plain
-  status_of result (inr (inl (is, failed, cut))) = inr (inr (inr (inr (inr (inl is)))))
-  status_of result (inr (inr (is, cut))) = inr (inr (inr (inr (inr (inr is)))))
-
-  -- where no count rose, a refusal of FILE is of its bytes, or for want of memory
-  pub refuses : (name : List ℕ) → IsRunOf words name → NoneFailed files out err → (result : ℕ) → Ends words files result out err → (result ≡ 3) ⊎ (result ≡ 8)
-  refuses name said none result (inl (Misworded, plain, is, answers)) = absurd (answers.stands name said)
-  refuses name said none result (inl (Unread other, plain, is, answers)) = absurd (none.no_load answers.stands.1)
-  refuses name said none result (inl (TooLong other, plain, is, answers)) = inl is
-  refuses name said none result (inl (NoTokens other f, plain, is, answers)) = inl is
-  refuses name said none result (inl (NoProgram other f, plain, is, answers)) = inl is
-  refuses name said none result (inl (NotBuilt other, plain, is, answers)) = inl is
-  refuses name said none result (inl (Ran other p events last end, plain, is, answers)) = absurd plain
-  refuses name said none result (inr (inl (is, inl failed, cut))) = absurd (none.no_out failed)
-  refuses name said none result (inr (inl (is, inr failed, cut))) = absurd (none.no_err failed)
-  refuses name said none result (inr (inr (is, cut))) = inr is
-
-  -- a source of the form that is told is refused for want of memory alone
-  module _ (name bytes : List ℕ) (p : Typed) (said : IsRunOf words name) (told : files.holds name ≡ Some bytes) (short : length bytes ≤ source_limit) (form : IsFirstForm bytes p) (none : NoneFailed files out err) where
-    no_cause : (cause : Cause) → IsRefusal cause → Stands words (MayGive files) cause → ⊥
-    no_cause Misworded plain stands = stands name said
-    no_cause (Unread other) plain stands = none.no_load stands.1
-    no_cause (TooLong other) plain stands =
-        let held = ap files.holds (one_name words other name stands.0 said) ∙ told in
-        let long = told_long (files.holds other) source_limit bytes stands.1 held in
-        omega (arith, long, short)
-    no_cause (NoTokens other f) plain stands =
-        let held = ap files.holds (one_name words other name stands.0 said) ∙ told in
-        let same = told_is (files.holds other) stands.1.0 bytes stands.1.1.0 held in
-        has_tokens bytes p f form (subst (λ (t : List ℕ). HasFault t f) same stands.1.2)
-    no_cause (NoProgram other f) plain stands =
-        let held = ap files.holds (one_name words other name stands.0 said) ∙ told in
-        let same = told_is (files.holds other) stands.1.0 bytes stands.1.2.0 held in
-        is_program bytes p stands.1.1 f form (subst (λ (t : List ℕ). HasTokens t stands.1.1) same stands.1.3) stands.1.4
-    no_cause (NotBuilt other) plain stands =
-        let held = ap files.holds (one_name words other name stands.0 said) ∙ told in
-        let same = told_is (files.holds other) stands.1.0 bytes stands.1.3.0 held in
-        are_first bytes p stands.1.1 form (subst (λ (t : List ℕ). HasTokens t stands.1.1) same stands.1.4.0) (stands.1.5 p)
-    no_cause (Ran other q events last end) plain stands = plain
-
-    no_failure : HasFailed out ⊎ HasFailed err → ⊥
-    no_failure (inl failed) = none.no_out failed
-    no_failure (inr failed) = none.no_err failed
-
-    pub runs : (result : ℕ) → Ends words files result out err → (result ≡ 0) ⊎ ((result ≡ 1) ⊎ (result ≡ 8))
-    runs result (inl (cause, plain, is, answers)) = absurd (no_cause cause plain answers.stands)
-    runs result (inr (inl (is, failed, cut))) = absurd (no_failure failed)
-    runs result (inr (inr (is, cut))) = inr (inr is)
+pub decided_at : (words : List (List ℕ)) (files : LoadPort) (asks : AskPort) (out err : PutPort) (result : ℕ) → Ends words files asks out err result
+    → (cause : Cause) → Stands words (Holds files) cause → NoneFailed files out err → Decides cause result ⊎ (result ≡ 8)
+decided_at words files asks out err result (inl (found, answers)) cause stands none =
+    inl (subst (Decides cause) (sym answers.is_status) (decided words files none.no_load cause found stands answers.arises.stands))
+decided_at words files asks out err result (inr (inl (is, inl failed, cut))) cause stands none = absurd (none.no_out failed)
+decided_at words files asks out err result (inr (inl (is, inr failed, cut))) cause stands none = absurd (none.no_err failed)
+decided_at words files asks out err result (inr (inr (is, cut))) cause stands none = inr is

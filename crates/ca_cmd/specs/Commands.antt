@@ -1,4 +1,5 @@
--- What a command does: its words, the name that it loads, its status, and its texts on `out` and `err`.
+-- What a command does: its words, and the causes of an answer. Each cause has one status, the names that are asked for, its texts on `out` and `err`,
+-- and where it stands.
 use Rattle.std.specs.Prelude.{◌≡◌, ◌≢◌, ℕ, List, [], ◌∷◌, ◌++◌, codes}
 use Rattle.ca_tree.specs.declared.token.Token.{Token}
 use Rattle.ca_tree.specs.declared.token.LexFault.{LexFault}
@@ -14,9 +15,10 @@ use Rattle.ca_model.specs.Machine.{State}
 use Rattle.ca_model.specs.Codes.{Typed}
 use Rattle.ca_form.specs.FirstForm.{AreFirst, IsFirstForm, StandsFor}
 use Rattle.ca_cmd.specs.FaultTexts.{lex_words, read_words, fault_at}
-use Rattle.ca_model.specs.SourceRuns.{IsSourceRun, IsOver, rules_of}
+use Rattle.ca_model.specs.SourceRuns.{IsSourceRun, rules_of}
 use Rattle.ca_model.specs.Traces.{line_end}
 use Rattle.ca_model.specs.Reports.{ending_status, report}
+use Rattle.ca_cmd.specs.Runs.{HasEnded}
 
 -- the most bytes that a source may have
 abbrev pub source_limit : ℕ
@@ -30,6 +32,10 @@ IsName (c ∷ cs) = c ≢ 45
 -- the words are `run FILE`
 abbrev pub IsRunOf : List (List ℕ) → List ℕ → Type 0
 IsRunOf words name = (words ≡ codes "run" ∷ name ∷ []) × IsName name
+
+-- the files that the words name, in the order in which they are loaded
+abbrev pub NamesFiles : List (List ℕ) → List (List ℕ) → Type 0
+NamesFiles words names = (name : List ℕ) × IsRunOf words name × (names ≡ name ∷ [])
 
 -- what the load of a file may give: its bytes, at most as many as the limit; more than those; or nothing, since it failed
 pub data Load : Type 0 where
@@ -56,6 +62,16 @@ status (NoProgram name fault) = 3
 status (NotBuilt name) = 3
 status (Ran name p events last end) = ending_status end
 
+-- the names that are asked for, in order
+abbrev pub asked_names : Cause → List (List ℕ)
+asked_names Misworded = []
+asked_names (Unread name) = name ∷ []
+asked_names (TooLong name) = name ∷ []
+asked_names (NoTokens name fault) = name ∷ []
+asked_names (NoProgram name fault) = name ∷ []
+asked_names (NotBuilt name) = name ∷ []
+asked_names (Ran name p events last end) = name ∷ []
+
 -- a refusal writes nothing to `out`
 abbrev pub out_text : Cause → List ℕ
 out_text (Ran name p events last end) = report (rules_of p) last events end
@@ -79,13 +95,13 @@ err_text (Ran name p events last end) = []
 abbrev pub memory_text : List ℕ
 memory_text = codes "conair: out of memory" ++ line_end
 
--- the load of a name gave the text of this source, and this is a run of it that is over; `Gives name l` says that the load gave l
+-- the load of a name gave the text of this source, and this is a run of it that has ended; `Gives name l` says that the load gave l
 pub record IsRunOfFile (Gives : List ℕ → Load → Type 0) (name : List ℕ) (p : Typed) (events : List Event) (last : State Thread) (end : Ending) : Type 0 where
   pub bytes : List ℕ
   pub loaded : Gives name (Loaded bytes)
   pub form : IsFirstForm bytes p
   pub run : IsSourceRun p events last end
-  pub over : IsOver end
+  pub ended : HasEnded end
 
 -- the cause is there: in the words, in what the load of the file gave, in its bytes
 abbrev pub Stands : List (List ℕ) → (List ℕ → Load → Type 0) → Cause → Type 0

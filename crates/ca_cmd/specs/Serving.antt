@@ -1,20 +1,28 @@
 -- What the top call answers and writes, by its words, what is told of the files, and what its puts did.
-use Rattle.std.specs.Prelude.{◌≡◌, ◌≤◌, ◌<◌, ◌⊎◌, ℕ, List, [], length, IfSome}
-use Rattle.ca_tree.specs.declared.token.LexFault.{LexFault}
-use Rattle.ca_grammar.specs.declared.faults.ReadFault.{ReadFault}
-use Rattle.ca_model.specs.declared.values.Event.{Event}
-use Rattle.ca_model.specs.declared.values.FaultKind.TheVariants as fault
-use Rattle.ca_model.specs.declared.values.Ending.{Ending}
-use Rattle.ca_model.specs.declared.values.Ending.TheVariants as ending
-use Rattle.ca_model.specs.Private.{Thread}
-use Rattle.ca_model.specs.Machine.{State}
-use Rattle.ca_model.specs.Codes.{Typed}
-use Rattle.ca_model.specs.SourceRuns.{rules_of}
-use Rattle.ca_model.specs.Reports.{ending_status, report}
-use Rattle.ca_cmd.specs.Commands.{source_limit, Load, Loaded, Exceeded, Unloaded, Cause, Unread, TooLong, NoTokens, NoProgram, NotBuilt, Ran, out_text, err_text, memory_text, IsRunOfFile, Stands}
-use Rattle.ca_cmd.specs.Runs.{HasEnded}
+use Rattle.std.specs.Prelude.{◌≡◌, ◌≤◌, ◌<◌, ◌⊎◌, ℕ, List, [], ◌++◌, length, IfSome, Some, Result, Ok, Err}
+use Rattle.ca_cmd.specs.Commands.{source_limit, NamesFiles, Load, Loaded, Exceeded, Unloaded, Cause, Unread, TooLong, NoTokens, NoProgram, NotBuilt, Ran, status, asked_names, out_text, err_text, memory_text, Stands}
+use Rattle.ca_cmd.specs.declared.refusals.Refusal.{Refusal}
+use Rattle.ca_cmd.specs.declared.refusals.Refusal.TheVariants as refusal
+use Rattle.ca_cmd.specs.declared.refusals.ServeNo.{ServeNo}
+use Rattle.ca_cmd.specs.declared.refusals.ServeNo.TheVariants as serve_no
 use Rattle.ca_io.specs.Outside.{IsTold}
 use Rattle.ca_io.specs.Ports.{PutPort, LoadPort, Wrote, WrotePart, HasFailed, HasFailedLoad}
+
+-- the names that were asked for, before and after a call
+pub record AskPort : Type 0 where
+  pub old : List (List ℕ)
+  pub new : List (List ℕ)
+
+abbrev pub ask_port : {F : Type 0} → (F → List (List ℕ)) → F → F → AskPort
+ask_port asked old new = record { old = asked old; new = asked new }
+
+-- these names were asked for, in this order, and no others
+abbrev pub Asked : AskPort → List (List ℕ) → Type 0
+Asked p names = p.new ≡ p.old ++ names
+
+-- some of them, from the first on
+abbrev pub AskedPart : AskPort → List (List ℕ) → Type 0
+AskedPart p names = (front rest : List (List ℕ)) × (names ≡ front ++ rest) × Asked p front
 
 -- what the load of a name may have given: where its contents are told, they are these
 abbrev pub MayGive : LoadPort → List ℕ → Load → Type 0
@@ -22,39 +30,41 @@ MayGive files name (Loaded bytes) = IsTold (files.holds name) bytes × (length b
 MayGive files name Exceeded = IfSome (files.holds name) (λ bytes. source_limit < length bytes)
 MayGive files name Unloaded = HasFailedLoad files
 
--- the cause is there, and its texts were put whole
-pub record Answers (words : List (List ℕ)) (files : LoadPort) (cause : Cause) (out err : PutPort) : Type 0 where
+-- what the load of a name gives where its contents are told and no load fails
+abbrev pub Holds : LoadPort → List ℕ → Load → Type 0
+Holds files name (Loaded bytes) = (files.holds name ≡ Some bytes) × (length bytes ≤ source_limit)
+Holds files name Exceeded = (bytes : List ℕ) × (files.holds name ≡ Some bytes) × (source_limit < length bytes)
+Holds files name Unloaded = ⊥
+
+-- the cause is there, and its names were asked for
+pub record Arises (words : List (List ℕ)) (files : LoadPort) (asks : AskPort) (cause : Cause) : Type 0 where
   pub stands : Stands words (MayGive files) cause
+  pub asked : Asked asks (asked_names cause)
+
+-- the cause is there, this is its status, its names were asked for, and its texts were put whole
+pub record Answers (words : List (List ℕ)) (files : LoadPort) (asks : AskPort) (out err : PutPort) (cause : Cause) (result : ℕ) : Type 0 where
+  pub arises : Arises words files asks cause
+  pub is_status : result ≡ status cause
   pub on_out : Wrote out (out_text cause)
   pub on_err : Wrote err (err_text cause)
 
--- the report of a finished run of the source in the file was put, and nothing to `err`
-abbrev pub Finishes : List (List ℕ) → LoadPort → PutPort → PutPort → Type 0
-Finishes words files out err = (name : List ℕ) × (p : Typed) × (events : List Event) × (last : State Thread) × Answers words files (Ran name p events last ending.Finished) out err
+-- the cause is there, its names were asked for, and fronts of its texts were put; on `err` it may be a front of the text on want of memory
+pub record Breaks (words : List (List ℕ)) (files : LoadPort) (asks : AskPort) (out err : PutPort) (cause : Cause) : Type 0 where
+  pub arises : Arises words files asks cause
+  pub on_out : WrotePart out (out_text cause)
+  pub on_err : WrotePart err (err_text cause) ⊎ WrotePart err memory_text
 
--- the report of a run that ended since a sum has no value was put, and nothing to `err`
-abbrev pub Faults : List (List ℕ) → LoadPort → PutPort → PutPort → Type 0
-Faults words files out err = (name : List ℕ) × (p : Typed) × (events : List Event) × (last : State Thread) × Answers words files (Ran name p events last (ending.Fault fault.Arith)) out err
+-- memory ran out before it was known which cause is there: of the files that the words name some were asked for, and nothing was put to `out`
+pub record IsStarved (words : List (List ℕ)) (asks : AskPort) (out err : PutPort) : Type 0 where
+  pub names : List (List ℕ)
+  pub named : NamesFiles words names
+  pub asked : AskedPart asks names
+  pub on_out : Wrote out []
+  pub on_err : WrotePart err memory_text
 
--- the source is refused, since it is too long, has no tokens, is no program within the limits, or is of another form
-abbrev pub Refuses : List (List ℕ) → LoadPort → PutPort → PutPort → Type 0
-Refuses words files out err =
-    (name : List ℕ) × (Answers words files (TooLong name) out err ⊎ (((f : LexFault) × Answers words files (NoTokens name f) out err)
-    ⊎ (((f : ReadFault) × Answers words files (NoProgram name f) out err) ⊎ Answers words files (NotBuilt name) out err)))
-
--- the file could not be read
-abbrev pub MissesFile : List (List ℕ) → LoadPort → PutPort → PutPort → Type 0
-MissesFile words files out err = (name : List ℕ) × Answers words files (Unread name) out err
-
--- a cause is there, and of its texts fronts were put, or of the text on want of memory
-abbrev pub IsCut : List (List ℕ) → LoadPort → PutPort → PutPort → Type 0
-IsCut words files out err =
-    ((cause : Cause) × Stands words (MayGive files) cause × WrotePart out (out_text cause) × (WrotePart err (err_text cause) ⊎ WrotePart err memory_text))
-    ⊎ (Wrote out [] × WrotePart err memory_text)
-
--- the statuses that the call answers
-abbrev pub IsStatus : ℕ → Type 0
-IsStatus n = (n ≡ 0) ⊎ ((n ≡ 1) ⊎ ((n ≡ 2) ⊎ ((n ≡ 3) ⊎ ((n ≡ 6) ⊎ ((n ≡ 7) ⊎ (n ≡ 8))))))
+-- the answer was cut short
+abbrev pub IsCut : List (List ℕ) → LoadPort → AskPort → PutPort → PutPort → Type 0
+IsCut words files asks out err = ((cause : Cause) × Breaks words files asks out err cause) ⊎ IsStarved words asks out err
 
 -- no count of faults has risen
 pub record NoneFailed (files : LoadPort) (out err : PutPort) : Type 0 where
@@ -62,18 +72,32 @@ pub record NoneFailed (files : LoadPort) (out err : PutPort) : Type 0 where
   pub no_out : HasFailed out → ⊥
   pub no_err : HasFailed err → ⊥
 
+-- the status that a cause gives: its own; where a source is run, that of one of its runs, which are over, and in which nothing waits
+abbrev pub Decides : Cause → ℕ → Type 0
+Decides (Ran name p events last end) n = (n ≡ 0) ⊎ (n ≡ 1)
+Decides cause n = n ≡ status cause
+
 -- one text was put, with this status; or the put failed or found no memory
 abbrev pub Closes : ℕ → List ℕ → ℕ → PutPort → Type 0
 Closes wanted text result p = ((result ≡ wanted) × Wrote p text) ⊎ (((result ≡ 7) × WrotePart p text × HasFailed p) ⊎ ((result ≡ 8) × WrotePart p text))
 
--- the report of a run of the file was put, and this is its status
-abbrev pub Reports : LoadPort → List ℕ → ℕ → PutPort → Type 0
-Reports files name result out =
-    (p : Typed) × (events : List Event) × (last : State Thread) × (end : Ending)
-    × IsRunOfFile (MayGive files) name p events last end × (result ≡ ending_status end) × Wrote out (report (rules_of p) last events end) × HasEnded end
+-- the text of a cause was put with its status; or that on want of memory, since there was none for the text
+abbrev pub Tells : Cause → ℕ → PutPort → Type 0
+Tells cause result p = Closes (status cause) (err_text cause) result p ⊎ Closes 8 memory_text result p
 
--- a front of the report of a run of the file was put
-abbrev pub ReportsPart : LoadPort → List ℕ → PutPort → Type 0
-ReportsPart files name out =
-    (p : Typed) × (events : List Event) × (last : State Thread) × (end : Ending)
-    × IsRunOfFile (MayGive files) name p events last end × WrotePart out (report (rules_of p) last events end)
+-- the cause that the refusal of a file is
+abbrev pub cause_of : List ℕ → Refusal → Cause
+cause_of name refusal.Unread = Unread name
+cause_of name refusal.TooLong = TooLong name
+cause_of name (refusal.NoTokens fault) = NoTokens name fault
+cause_of name (refusal.NoProgram fault) = NoProgram name fault
+cause_of name refusal.NotBuilt = NotBuilt name
+
+-- what serving the files that the words name answers: the status of a cause that puts nothing to `err` and whose text was put whole; a refusal, whose cause is
+-- there; that a put of such a text failed; or that memory ran out, while the text was put or before a cause was known
+abbrev pub Serves : List (List ℕ) → LoadPort → AskPort → PutPort → List ℕ → Result ℕ ServeNo → Type 0
+Serves words files asks out name (Ok n) = (cause : Cause) × Arises words files asks cause × (n ≡ status cause) × Wrote out (out_text cause) × (err_text cause ≡ [])
+Serves words files asks out name (Err (serve_no.Refused r)) = Arises words files asks (cause_of name r) × Wrote out (out_text (cause_of name r))
+Serves words files asks out name (Err serve_no.Put) = (cause : Cause) × Arises words files asks cause × WrotePart out (out_text cause) × (err_text cause ≡ []) × HasFailed out
+Serves words files asks out name (Err serve_no.NoMemory) =
+    ((cause : Cause) × Arises words files asks cause × WrotePart out (out_text cause)) ⊎ ((names : List (List ℕ)) × NamesFiles words names × AskedPart asks names × Wrote out [])

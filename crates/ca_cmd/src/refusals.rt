@@ -1,11 +1,9 @@
 // Refusals: their texts, put to one sink, and their statuses.
-ghost use Rattle.std.specs.Prelude.{◌≡◌, ◌⊎◌, [], ◌++◌, codes};
-ghost use Rattle.ca_tree.specs.declared.token.LexFault.{LexFault};
-ghost use Rattle.ca_grammar.specs.declared.faults.ReadFault.{ReadFault};
+ghost use Rattle.std.specs.Prelude.{◌≡◌, ◌⊎◌, ◌++◌, codes};
 ghost use Rattle.ca_cmd.specs.FaultTexts.{fault_at};
-ghost use Rattle.ca_cmd.specs.Commands.{Unread, TooLong, NoTokens, NoProgram, NotBuilt, err_text, message, memory_text};
+ghost use Rattle.ca_cmd.specs.Commands.{message, memory_text};
 ghost use Rattle.ca_io.specs.Ports.{put_port};
-ghost use Rattle.ca_cmd.specs.Serving.{Closes};
+ghost use Rattle.ca_cmd.specs.Serving.{Closes, Tells, cause_of};
 
 use crate::fault_texts::{lex_words, read_words};
 use ca_grammar::ReadFault;
@@ -13,15 +11,29 @@ use ca_io::{PutNo, Sink};
 use ca_tree::{LexFault, Pos};
 use std::alloc::{AllocError, Global};
 
-/// Why a source was not run, or its report not put whole.
+/// Why a file is refused.
 #[derive(Clone, Copy, Debug, PartialEq, Eq)]
 pub enum Refusal {
+    /// It could not be loaded.
     Unread,
+    /// It is longer than the limit.
     TooLong,
+    /// It has no tokens: its first fault.
     NoTokens(LexFault),
+    /// Its tokens are no program within the limits: their first fault.
     NoProgram(ReadFault),
+    /// It is a program of no form that is built.
     NotBuilt,
+}
+
+/// Why a file was not served.
+#[derive(Clone, Copy, Debug, PartialEq, Eq)]
+pub enum ServeNo {
+    /// The file is refused, and nothing was put.
+    Refused(Refusal),
+    /// A put failed.
     Put,
+    /// An allocation was refused.
     NoMemory,
 }
 
@@ -71,25 +83,7 @@ fn tell_fault<E: Sink>(alloc: Global, err: &mut E, name: &str, pos: Pos, words: 
 
 /// Puts the text of a refusal, and answers its status.
 pub fn refuse<E: Sink>(alloc: Global, name: &str, refusal: Refusal, err: &mut E) -> u8
-    ensures unread { refusal ≡ Refusal.Unread →
-        Closes 6 (err_text (Unread name.now)) result (put_port E.written E.faults err.old err.new)
-        ⊎ Closes 8 memory_text result (put_port E.written E.faults err.old err.new) }
-    ensures too_long { refusal ≡ Refusal.TooLong →
-        Closes 3 (err_text (TooLong name.now)) result (put_port E.written E.faults err.old err.new)
-        ⊎ Closes 8 memory_text result (put_port E.written E.faults err.old err.new) }
-    ensures no_tokens { (f : LexFault) → refusal ≡ Refusal.NoTokens f →
-        Closes 3 (err_text (NoTokens name.now f)) result (put_port E.written E.faults err.old err.new)
-        ⊎ Closes 8 memory_text result (put_port E.written E.faults err.old err.new) }
-    ensures no_program { (f : ReadFault) → refusal ≡ Refusal.NoProgram f →
-        Closes 3 (err_text (NoProgram name.now f)) result (put_port E.written E.faults err.old err.new)
-        ⊎ Closes 8 memory_text result (put_port E.written E.faults err.old err.new) }
-    ensures not_built { refusal ≡ Refusal.NotBuilt →
-        Closes 3 (err_text (NotBuilt name.now)) result (put_port E.written E.faults err.old err.new)
-        ⊎ Closes 8 memory_text result (put_port E.written E.faults err.old err.new) }
-    ensures put { refusal ≡ Refusal.Put → result ≡ 7 }
-    ensures put_nothing { refusal ≡ Refusal.Put → err.new ≡ err.old }
-    ensures no_memory { refusal ≡ Refusal.NoMemory →
-        Closes 8 memory_text result (put_port E.written E.faults err.old err.new) }
+    ensures { Tells (cause_of name.now refusal) result (put_port E.written E.faults err.old err.new) }
 {
     match refusal {
         Refusal::Unread => tell(alloc, err, 6, "conair: cannot read ", name, ""),
@@ -110,7 +104,5 @@ pub fn refuse<E: Sink>(alloc: Global, name: &str, refusal: Refusal, err: &mut E)
             read_words(fault.kind),
         ),
         Refusal::NotBuilt => tell(alloc, err, 3, "conair: ", name, ": not built yet"),
-        Refusal::Put => 7,
-        Refusal::NoMemory => out_of_memory(err),
     }
 }
