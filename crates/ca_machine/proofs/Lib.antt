@@ -1,0 +1,13 @@
+pub mod Stepping
+pub mod Entering
+pub mod Named
+pub mod Creating
+pub mod Told
+pub mod Dues
+pub mod Comings
+pub mod Standing
+pub mod Resting
+pub mod Chosen
+pub mod Along
+pub mod Turning
+pub mod Groups

@@ -1,0 +1,5 @@
+pub mod Machines
+pub mod Moves
+pub mod Coming
+pub mod Choices
+pub mod Runs
