@@ -47,7 +47,7 @@ by_choice c s w _ o late = late
 -- whether a thread is blocked, by whether it waits
 module _ (code : Code) (s : State Hardened) (t : ℕ) (timeout : Bool) where
   pub blocked_so : (h : Hardened) (o : Option Waits) → slice_get s.threads t ≡ Some h → IsRunning s t → IsWaitOf s (hardened code).want t o → (retry_site code h ≡ None) ⊎ (timeout ≡ false) → IsBlocked code s h timeout o
-  blocked_so h o there run waits why = elim (waits h there) [
+  blocked_so h o there run waits why = elim (waits.there h there) [
     | inl (open', w) ↦ told o w
     | inr (closed', e) ↦ absurd (closed' run.run)
   ]

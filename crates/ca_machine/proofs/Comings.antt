@@ -1,25 +1,20 @@
 -- The entry that comes for a thread of a state, and what the thread may do there.
 use Rattle.std.proofs.Common.{◌≡◌, ◌<◌, ◌^◌, ℕ, List, [], Option, Some, None, sym, ap, subst, ◌∙◌, arith, inl, inr}
-use Rattle.std.specs.Prelude.{ℤ, slice_get}
+use Rattle.std.specs.Prelude.{slice_get}
 use Rattle.ca_model.specs.declared.values.Event.{Event}
 use Rattle.ca_model.specs.declared.values.EventAct.{EventAct}
-use Rattle.ca_model.specs.declared.values.EventAct.TheVariants as act
-use Rattle.ca_model.specs.declared.values.Value.{Value}
-use Rattle.ca_model.specs.declared.values.Given.{Given}
-use Rattle.ca_tree.specs.declared.numbers.SiteId.{SiteId}
-use Rattle.ca_model.specs.Asks.{Want, Mallocs}
+use Rattle.ca_model.specs.Asks.{Want}
 use Rattle.ca_model.specs.Frames.{Code}
-use Rattle.ca_model.specs.Private.{stand, answer, going_on}
-use Rattle.ca_model.specs.Machine.{by, State, Step}
+use Rattle.ca_model.specs.Private.{stand}
+use Rattle.ca_model.specs.Machine.{State}
 use Rattle.ca_model.specs.Waits.{CanMove}
-use Rattle.ca_model.specs.Hardened.{Hardened, hardened, hardened_advance, retry_site, taking}
-use Rattle.ca_model.proofs.Creates.{frames_some}
+use Rattle.ca_model.specs.Hardened.{Hardened, hardened}
 use Rattle.ca_model.specs.Runner.{IsLeastUnused, IsTimeout, Comes}
-use Rattle.ca_model.specs.ComingEntries.{EndedBelow, entry_of, gives_at, the_entry}
+use Rattle.ca_model.specs.ComingEntries.{EndedBelow, entry_of}
 use Rattle.ca_model.proofs.Law.{one_of}
 use Rattle.ca_model.proofs.MayCome.{decide}
-use Rattle.ca_model.proofs.OneEntry.{answer_some, comes_as, one_event}
-use Rattle.ca_model.proofs.EnabledThreads.{comes}
+use Rattle.ca_model.proofs.OneEntry.{comes_as, one_event}
+use Rattle.ca_model.proofs.EnabledThreads.{comes, step_comes}
 use Rattle.ca_machine.specs.Coming.{IsRunning, IsStatus, IsStatusOf, IsComing}
 use Rattle.ca_machine.specs.declared.coming.Status.{Status}
 use Rattle.ca_machine.specs.declared.coming.Status.TheVariants as status
@@ -76,21 +71,6 @@ module _ (code : Code) (events patience : ℕ) (s : State Hardened) (t : ℕ) wh
     pub coming_so : (e : Event) → e.thread ≡ t → entry_of code s.shared t k h ≡ Some e.act → IsComing code events patience s t (Some e)
     coming_so e same is = (same, comes_so e.act is)
 
-    wants_block : (r : Option SiteId) (gives : List Given) (w : Want) (n : ℤ) (x y : Value) → answer w (act.Malloc n x) ≡ Some y → the_entry s.shared t k r gives w ≡ None → ⊥
-    wants_block r gives (Mallocs cells i) n x y e none = cc
-    wants_block r gives _ n x y e none = cc
-
     -- where a step of the thread is possible, an entry comes
-    stuck : (a : EventAct) (new : State Hardened) (st : Step (hardened code) s (by t a) new) → st.before ≡ h → entry_of code s.shared t k h ≡ None → ⊥
-    stuck (act.Malloc n x) new st is none =
-        let own : hardened_advance code h (act.Malloc n x) ≡ Some st.after = subst (λ g. hardened_advance code g (act.Malloc n x) ≡ Some st.after) is st.own in
-        let frames = frames_some (going_on (stand code h.frames) (answer (stand code h.frames).want (act.Malloc n x))) (taking code (stand code h.frames).want (act.Malloc n x)) h.saved st.after own in
-        let value = answer_some (stand code h.frames) (answer (stand code h.frames).want (act.Malloc n x)) frames.0 frames.1 in
-        wants_block (retry_site code h) (gives_at s.shared t h.saved) (stand code h.frames).want n x value.0 value.1 none
-    stuck a new st is none = none_comes none a new (record { step = st; chosen = tt })
-
     pub can_come : CanMove (hardened code) s t → (a : EventAct) × (new : State Hardened) × Comes code events patience s t a new
-    can_come (a, new, st) = elim (decide code h s.shared t k (stand code h.frames).go used few (let there = run.there in omega arith) (stand code h.frames).want) [
-      | inl (b, p) ↦ let c = comes code events patience s [] k used few ended run.run t h stands run.there run.going b p in (b, c.0, c.1)
-      | inr none ↦ absurd (stuck a new st (one_of st.before h (sym st.stands ∙ stands)) none)
-    ]
+    can_come (a, new, st) = step_comes code events patience s [] k used few ended run.run t a new st

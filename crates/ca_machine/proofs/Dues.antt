@@ -1,7 +1,7 @@
 -- A fault or retry of a thread is due exactly where it is the entry that comes.
 use Rattle.std.proofs.Common.{◌≡◌, ◌<◌, ◌^◌, ℕ, Bool, true, false, Option, Some, None, refl, sym, ap, subst, ◌∙◌, inl, inr, arith}
 use Rattle.std.specs.Prelude.{◌↔◌, ◌==◌, IsTrue}
-use Rattle.std.proofs.lemmas.Bool.{and_parts, and_from, eqb-true}
+use Rattle.std.proofs.lemmas.Bool.{eqb-true}
 use Rattle.ca_model.specs.declared.values.Event.{Event}
 use Rattle.ca_model.specs.declared.values.EventAct.{EventAct}
 use Rattle.ca_model.specs.declared.values.EventAct.TheVariants as act
@@ -15,8 +15,7 @@ use Rattle.ca_machine.specs.Moves.{IsEntry, IsJudged}
 use Rattle.ca_model.proofs.Law.{one_of}
 use Rattle.ca_model.proofs.MayCome.{decide}
 use Rattle.ca_model.proofs.OneEntry.{due_at, due_from, entry_is, if_some}
-use Rattle.ca_model.proofs.SameEvents.{equal_acts, same_event, equal_events}
-use Rattle.ca_model.specs.Machine.{by}
+use Rattle.ca_model.proofs.SameEvents.{equal_acts, same_act, act_self}
 use Rattle.ca_flow.specs.Lowerings.{rules_of}
 use Rattle.ca_shared.specs.Histories.{History, state}
 use Rattle.ca_shared.specs.Legal.{IsWellKept}
@@ -43,13 +42,6 @@ module _ (code : Code) (g : Shared) (t k : ℕ) (h : Hardened) (used : IsLeastUn
         subst (HardenedDue code g t h) (one_of b a (sym one ∙ is)) (due_from code g t h b p.due)
     | inr none ↦ let no : None ≡ Some a = sym none ∙ is in absurd cc
   ]
-
--- equal entries are the same
-same_acts : (a b : EventAct) → equal_acts a b ≡ true → a ≡ b
-same_acts a b e = ap (λ (x : Event). x.act) (same_event (by 0 a) (by 0 b) (and_from true (equal_acts a b) refl e))
-
-equal_if : (a b : EventAct) → a ≡ b → equal_acts a b ≡ true
-equal_if a b e = (and_parts true (equal_acts a b) (equal_events (by 0 a) (by 0 b) (ap (by 0) e))).1
 
 module _ (p : Thread) (shared : History) (h : Hardened) (e : Event) (k : ℕ) (used : IsLeastUnused (state shared).blocks k) (few : k < 2 ^ 32) (kept : IsWellKept (state shared)) (entry : IsEntry (state shared) p h e)
     (o : Option EventAct) (is : o ≡ entry_of (rules_of p.code) (state shared) p.thread k h) where
@@ -80,8 +72,8 @@ module _ (p : Thread) (shared : History) (h : Hardened) (e : Event) (k : ℕ) (u
   -- it is due exactly where it is the one that comes
   pub due_one : IsJudged e.act → (a : EventAct) (b : Bool) → o ≡ Some a → b ≡ equal_acts a e.act → IsTrue b ↔ HardenedDue code (state shared) e.thread h e.act
   due_one j a b here eq = (
-    (λ t. due_if_comes (here ∙ ap Some (same_acts a e.act (sym eq ∙ t)))),
-    (λ due. eq ∙ equal_if a e.act (one_of a e.act (sym here ∙ comes_if_due j due))),
+    (λ t. due_if_comes (here ∙ ap Some (same_act a e.act (sym eq ∙ t)))),
+    (λ due. eq ∙ subst (λ x. equal_acts a x ≡ true) (one_of a e.act (sym here ∙ comes_if_due j due)) (act_self a)),
   )
 
   pub due_none : IsJudged e.act → o ≡ None → IsTrue false ↔ HardenedDue code (state shared) e.thread h e.act

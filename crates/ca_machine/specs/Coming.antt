@@ -1,5 +1,5 @@
 -- What a thread of a state may do, and for what it waits.
-use Rattle.std.specs.Prelude.{◌≡◌, ◌<◌, ◌⊎◌, ℕ, pos, false, Option, Some, None, slice_get}
+use Rattle.std.specs.Prelude.{◌≡◌, ◌<◌, ◌≤◌, ◌⊎◌, ℕ, pos, false, Option, Some, None, slice_get}
 use Rattle.std.specs.FinMap as map
 use Rattle.std.specs.FinSet as set
 use Rattle.ca_model.specs.declared.values.Event.{Event}
@@ -50,6 +50,7 @@ abbrev pub IsWaitAt : Shared → Want → Option Waits → Type 0
 IsWaitAt s w None = WaitsAt s w → ⊥
 IsWaitAt s w (Some x) = IsWait s x w
 
--- thread t of an open run waits so, at a lock with or without a possible retry; else it doesn't wait
-abbrev pub IsWaitOf : State Hardened → (Hardened → Want) → ℕ → Option Waits → Type 0
-IsWaitOf s want t o = (h : Hardened) → slice_get s.threads t ≡ Some h → ((s.shared.phase ≡ Open) × IsWaitAt s.shared (want h) o) ⊎ ((s.shared.phase ≡ Open → ⊥) × (o ≡ None))
+-- thread t of an open run waits so, at a lock with or without a possible retry; else, and where no thread has the number, nothing waits
+pub record IsWaitOf (s : State Hardened) (want : Hardened → Want) (t : ℕ) (o : Option Waits) : Type 0 where
+  pub there : (h : Hardened) → slice_get s.threads t ≡ Some h → ((s.shared.phase ≡ Open) × IsWaitAt s.shared (want h) o) ⊎ ((s.shared.phase ≡ Open → ⊥) × (o ≡ None))
+  pub beyond : s.shared.threads ≤ t → o ≡ None

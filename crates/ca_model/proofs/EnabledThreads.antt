@@ -101,7 +101,7 @@ timeout_known (act.Retry site gives) (Locks m s i) = inl tt
 timeout_known _ _ = inr (λ w. w)
 
 -- a thread that makes a block wants one
-wants_block : (g : Shared) (t k : ℕ) (r : Option SiteId) (gives : List Given) (w : Want) (n : ℤ) (x y : Value) → answer w (act.Malloc n x) ≡ Some y → the_entry g t k r gives w ≡ None → ⊥
+pub wants_block : (g : Shared) (t k : ℕ) (r : Option SiteId) (gives : List Given) (w : Want) (n : ℤ) (x y : Value) → answer w (act.Malloc n x) ≡ Some y → the_entry g t k r gives w ≡ None → ⊥
 wants_block g t k r gives (Mallocs cells i) n x y e none = cc
 wants_block g t k r gives _ n x y e none = cc
 
@@ -222,7 +222,7 @@ module _ (code : Code) (events patience : ℕ) where
     enabled_comes t (inr w) = (w.1.0, w.1.1, w.1.2)
 
     -- where a step of a thread is possible, so is an entry that the runner may choose
-    none_stuck : (t : ℕ) (a : EventAct) (new : State Hardened) (st : Step (hardened code) s (by t a) new) → entry_of code s.shared t k st.before ≡ None → ⊥
+    pub none_stuck : (t : ℕ) (a : EventAct) (new : State Hardened) (st : Step (hardened code) s (by t a) new) → entry_of code s.shared t k st.before ≡ None → ⊥
     none_stuck t (act.Malloc n x) new st none =
         let h = st.before in
         let frames = frames_some (going_on (stand code h.frames) (answer (stand code h.frames).want (act.Malloc n x))) (taking code (stand code h.frames).want (act.Malloc n x)) h.saved st.after st.own in
@@ -232,7 +232,7 @@ module _ (code : Code) (events patience : ℕ) where
         let no' : None ≡ Some a = sym none ∙ comes_as code events patience s t k used ended a new (record { step = st; chosen = tt }) in
         cc
 
-    step_comes : (t : ℕ) (a : EventAct) (new : State Hardened) → Step (hardened code) s (by t a) new → SomeEntry t
+    pub step_comes : (t : ℕ) (a : EventAct) (new : State Hardened) → Step (hardened code) s (by t a) new → SomeEntry t
     step_comes t a new st =
         let h = st.before in
         elim (decide code h s.shared t k (stand code h.frames).go used few (omega (arith, st.legal.there)) (stand code h.frames).want) [

@@ -18,6 +18,7 @@ pub mod Matching
 pub mod Bounded
 pub mod Stepping
 pub mod OwnWants
+pub mod CreateWants
 pub mod Harmless
 pub mod NoPlan
 pub mod PlainRuns

@@ -62,7 +62,7 @@ same_list r is [] [] e = refl
 same_list r is (x ∷ xs) (y ∷ ys) e = let two = and_parts (r x y) (pointwise r xs ys) e in ap (λ z. z ∷ xs) (is x y two.0) ∙ ap (λ l. y ∷ l) (same_list r is xs ys two.1)
 same_list r is _ _ e = absurd (cc)
 
-same_act : (a b : EventAct) → equal_acts a b ≡ true → a ≡ b
+pub same_act : (a b : EventAct) → equal_acts a b ≡ true → a ≡ b
 same_act (act.Read p x) (act.Read q y) e =
     let two = and_parts (addr_eq.TheImpl.eq-value.it p q) (value_eq.TheImpl.eq-value.it x y) e in
     ap (λ r. act.Read r x) (same_addr p q two.0) ∙ ap (act.Read q) (same_is x y (sym (equal_values x y) ∙ two.1))
@@ -120,7 +120,7 @@ list_self : {A : Type 0} (r : A → A → Bool) → ((x : A) → r x x ≡ true)
 list_self r is [] = refl
 list_self r is (x ∷ xs) = and_from (r x x) (pointwise r xs xs) (is x) (list_self r is xs)
 
-act_self : (a : EventAct) → equal_acts a a ≡ true
+pub act_self : (a : EventAct) → equal_acts a a ≡ true
 act_self (act.Read p x) = and_from (addr_eq.TheImpl.eq-value.it p p) (value_eq.TheImpl.eq-value.it x x) (addr_self p) (value_self x)
 act_self (act.Write p x) = and_from (addr_eq.TheImpl.eq-value.it p p) (value_eq.TheImpl.eq-value.it x x) (addr_self p) (value_self x)
 act_self (act.Lock m) = eq-eqb m.0 m.0 refl

@@ -15,7 +15,7 @@ unreachable-requires c =
     let h = get_one s.threads c.args.thread within in
     let all = (c.none_waits_in_vain.ensures.hardened m.source c.shared-shared.ensures.formed m.plan m.trace s reach run.run).1.0 (c.requires.deadlock s reach).1 in
     let waits = (all c.args.thread h.0 h.1 run.going).0 in
-    elim (c.in-None.ensures s reach h.0 h.1) [
+    elim ((c.in-None.ensures s reach).there h.0 h.1) [
       | inl (is, none) ↦ none waits
       | inr (closed, e) ↦ closed run.run
     ]
