@@ -17,7 +17,7 @@ use Rattle.ca_model.specs.Private as alone
 use Rattle.ca_model.specs.Private.{last_want, stand}
 use Rattle.ca_model.specs.Hardened.{Hardened, hardened}
 use Rattle.ca_model.specs.Machine.{State}
-use Rattle.ca_model.proofs.CreateWants.{creates_only}
+use Rattle.ca_model.proofs.CreateWants.{MakesOf, creates_only}
 use Rattle.ca_model.proofs.KnownWants.{IsKnown, IsPlaced, wants_known}
 use Rattle.ca_model.proofs.FramesInPlace.{AreInPlace}
 use Rattle.ca_model.proofs.FramesOfRuns.{kept_in_progress}

@@ -16,7 +16,7 @@ use Rattle.ca_model.specs.WellFormed.{IsWellFormed}
 use Rattle.ca_model.specs.SourceRuns.{no_plan, rules_of}
 use Rattle.ca_model.specs.Frames.{Code, Frame, begun, wanted}
 use Rattle.ca_model.specs.Private.{Thread, last_want}
-use Rattle.ca_model.proofs.CreateWants.{creates_only}
+use Rattle.ca_model.proofs.CreateWants.{MakesOf, creates_only}
 use Rattle.ca_erasure.proofs.KnownItems.{heads_known}
 use Rattle.ca_pruned.specs.Points.{bare}
 use Rattle.ca_pruned.proofs.Asking.{Asked, By_item, By_turn, asked}
