@@ -1,9 +1,8 @@
 -- The entry that comes for a thread of a state, and what the thread may do there.
-use Rattle.std.proofs.Common.{◌≡◌, ◌<◌, ◌^◌, ℕ, List, [], Option, Some, None, sym, ap, subst, ◌∙◌, arith, inl, inr}
+use Rattle.std.proofs.Common.{◌≡◌, ◌<◌, ◌^◌, ℕ, [], Option, Some, None, sym, ap, subst, ◌∙◌, arith, inl, inr}
 use Rattle.std.specs.Prelude.{slice_get}
 use Rattle.ca_model.specs.declared.values.Event.{Event}
 use Rattle.ca_model.specs.declared.values.EventAct.{EventAct}
-use Rattle.ca_model.specs.Asks.{Want}
 use Rattle.ca_model.specs.Frames.{Code}
 use Rattle.ca_model.specs.Private.{stand}
 use Rattle.ca_model.specs.Machine.{State}

@@ -2,7 +2,6 @@
 use Rattle.std.proofs.Common.{◌≡◌, ℕ, ◌<◌, List, [], ◌∷◌, length, Some, refl, sym, ap, subst, ◌∙◌}
 use Rattle.std.specs.Prelude.{Contains, slice_get}
 use Rattle.ca_tree.specs.declared.numbers.FunId.{FunId}
-use Rattle.ca_tree.specs.declared.numbers.ItemId.{ItemId}
 use Rattle.ca_model.specs.declared.values.Value.{Value}
 use Rattle.ca_model.specs.declared.tree.Item.{Item}
 use Rattle.ca_model.specs.Asks.{Want, Creates, Got, Is, Wants, No_result}

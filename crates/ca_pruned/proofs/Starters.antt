@@ -1,11 +1,10 @@
 -- A thread that a create makes begins with a function that is named in a create.
-use Rattle.std.proofs.Common.{◌≡◌, ℕ, List, [], ◌∷◌, refl, sym, ap, ◌∙◌, subst, inl, inr}
+use Rattle.std.proofs.Common.{◌≡◌, [], ◌∷◌, refl, sym, ap, ◌∙◌, subst, inl, inr}
 use Rattle.std.specs.Prelude.{Contains}
 use Rattle.ca_tree.specs.declared.numbers.FunId.{FunId}
-use Rattle.ca_tree.specs.declared.numbers.ItemId.{ItemId}
 use Rattle.ca_model.specs.declared.values.Value.{Value}
 use Rattle.ca_model.specs.declared.tree.Function.{Function}
-use Rattle.ca_model.specs.Asks.{Want, Creates, Got, Is, Wants, No_result}
+use Rattle.ca_model.specs.Asks.{Creates, Got, Is, Wants, No_result}
 use Rattle.ca_model.specs.Items.{Done}
 use Rattle.ca_model.specs.Laws.{OnWants}
 use Rattle.ca_model.specs.Paths as paths

@@ -1,9 +1,11 @@
-use Rattle.std.proofs.Common.{◌≡◌, ◌≤◌, length, arith, sym, ap, subst, ◌∙◌, inl}
+use Rattle.std.proofs.Common.{◌≡◌, ◌≤◌, ◌<◌, length, Some, arith, refl, sym, ap, subst, ◌∙◌, inl}
+use Rattle.std.specs.Prelude.{slice_get}
 use Rattle.std.proofs.lemmas.Option.{slice_get_within}
 use Rattle.ca_model.specs.Hardened.{hardened}
 use Rattle.ca_model.specs.Shared.{Shared}
 use Rattle.ca_flow.specs.Lowerings.{Lowering, rules_of}
 use Rattle.ca_shared.specs.Histories.{state}
+use Rattle.ca_thread.specs.Privates.{Thread}
 use Rattle.ca_machine.specs.Coming.{IsWaitAt}
 use Rattle.ca_machine.proofs.Entering.{codes_are}
 use Rattle.ca_machine.proofs.Standing.{found}
