@@ -1,7 +1,7 @@
 // Worked sources through the command.
-use crate::sources::BOUNDED_BUFFER;
 use ca_cmd::command_alone;
 use ca_io::{MemoryFiles, MemorySink};
+use ca_sources::BOUNDED_BUFFER;
 use std::alloc::Global;
 use std::test::Fail;
 

@@ -3,16 +3,6 @@
 
 #[cfg(test)]
 mod command_tests;
-#[cfg(test)]
-mod expression_tests;
-#[cfg(test)]
-mod expression_types;
-#[cfg(test)]
-mod program_tests;
-#[cfg(test)]
-mod sources;
-#[cfg(test)]
-mod types_tests;
 
 use ca_cmd::{command_alone, out_of_memory};
 use ca_io::{HostFiles, HostSink};

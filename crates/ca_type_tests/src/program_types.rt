@@ -1,34 +1,14 @@
 //! The types of programs from their texts, worked by hand from the rules of names and types.
-use crate::sources::ALL;
-use ca_lex::{LexNo, tokens};
-use ca_read::{ReadNo, program};
-use ca_shapes::each_program_of_a_text_is_written;
-use ca_types::{TypeNo, check_types};
+use ca_sources::ALL;
+use ca_worked::typing;
 use std::alloc::{AllocError, Global};
 use std::test::Fail;
 
-// "typed", or the fault of types and its place.
-#[tactic(auto, using(ca_grammar::proofs::LexedEnds::ends_once))]
+// "typed", or the fault.
 fn answer(alloc: Global, text: &[u8]) -> Result<String, AllocError> {
-    let found = match tokens(alloc, text) {
-        Ok(found) => found,
-        Err(LexNo::NoMemory) => return Err(AllocError),
-        Err(LexNo::Fault(_)) => return format!(in alloc; "no tokens"),
-    };
-    let tree = match program(alloc, &found) {
-        Ok(tree) => tree,
-        Err(ReadNo::NoMemory) => return Err(AllocError),
-        Err(ReadNo::Fault(fault)) => {
-            return format!(in alloc; "{:?} {}:{}", fault.kind, fault.pos.line, fault.pos.column);
-        }
-    };
-    each_program_of_a_text_is_written();
-    match check_types(alloc, tree) {
+    match typing(alloc, text)? {
         Ok(_) => format!(in alloc; "typed"),
-        Err(TypeNo::NoMemory) => Err(AllocError),
-        Err(TypeNo::Fault(fault)) => {
-            format!(in alloc; "{:?} {}:{}", fault.kind, fault.pos.line, fault.pos.column)
-        }
+        Err(fault) => Ok(fault),
     }
 }
 
@@ -197,10 +177,11 @@ const VALUES: [(&[u8], &str); 25] = [
     (b"return m;", "Mismatch 11:8"),
 ];
 
-const CALLS: [(&[u8], &str); 34] = [
+const CALLS: [(&[u8], &str); 35] = [
     (b"printf(\"%s\", x);", "Mismatch 11:1"),
     (b"printf(\"%d\");", "Mismatch 11:1"),
     (b"printf(\"%d\", x, x);", "Mismatch 11:1"),
+    (b"printf(\"%d %d\", 1);", "Mismatch 11:1"),
     (b"printf(\"%d\", p);", "Mismatch 11:14"),
     (b"printf(\"%d\", m);", "Mismatch 11:14"),
     (b"free(x);", "Mismatch 11:6"),
@@ -234,7 +215,7 @@ const CALLS: [(&[u8], &str); 34] = [
     (b"h = malloc(p * sizeof(struct node));", "Mismatch 11:12"),
 ];
 
-const TYPED: [&[u8]; 61] = [
+const TYPED: [&[u8]; 62] = [
     b"y = 0;",
     b"y = 0x0;",
     b"y = (0);",
@@ -293,17 +274,22 @@ const TYPED: [&[u8]; 61] = [
     b"{ int x; x = 1; }",
     b"{ int m; m = 1; }",
     b"for (int x = 0; x < 3; x++) { int x; x = 1; }",
+    b"for (int i = 0; i < 3; i++) ; for (int i = 0; ; ) ;",
     b"printf(\"100%%\\n\");",
     b"printf(\"%%%d\\n\", x);",
     b"return x;",
 ];
 
-const PROGRAMS: [(&[u8], &str); 39] = [
+const PROGRAMS: [(&[u8], &str); 43] = [
     (b"int main(void) { x = 1; return 0; }", "Unknown 1:18"),
     (b"int f(void); int main(void) { return 0; }", "Unknown 1:5"),
     (b"struct n *p; int main(void) { return 0; }", "Unknown 1:8"),
     (
         b"struct a { struct b *p; }; int main(void) { return 0; }",
+        "Unknown 1:19",
+    ),
+    (
+        b"struct a { struct b *p; }; struct b { int v; }; int main(void) { return 0; }",
         "Unknown 1:19",
     ),
     (
@@ -379,6 +365,14 @@ const PROGRAMS: [(&[u8], &str); 39] = [
         "Mismatch 1:5",
     ),
     (
+        b"void *f(void *x, int y) { return x; } int main(void) { return 0; }",
+        "Mismatch 1:7",
+    ),
+    (
+        b"int f(int y, void *x) { return y; } int main(void) { return 0; }",
+        "Mismatch 1:5",
+    ),
+    (
         b"void *f(int x) { return NULL; } int main(void) { return 0; }",
         "Mismatch 1:7",
     ),
@@ -414,6 +408,7 @@ const PROGRAMS: [(&[u8], &str); 39] = [
         b"struct n { int v; int w; }; struct n a[32769]; int main(void) { return 0; }",
         "TooManyCells 1:38",
     ),
+    (b"", "NoMain 1:1"),
     (b"int g;", "NoMain 1:1"),
     (b"int main(void);", "NoMain 1:1"),
     (b"void main(void) { }", "NoMain 1:1"),
@@ -421,13 +416,14 @@ const PROGRAMS: [(&[u8], &str); 39] = [
     (b"int g; int g;", "NoMain 1:1"),
 ];
 
-const TYPED_PROGRAMS: [&[u8]; 8] = [
+const TYPED_PROGRAMS: [&[u8]; 9] = [
     b"int f(void); int f(void); int main(void) { return 0; } int f(void) { return 0; }",
     b"struct a { struct a *p; }; int main(void) { return 0; }",
     b"int f(int a) { { int a; } return a; } int main(void) { return 0; }",
     b"int *p = -0; int main(void) { return 0; }",
     b"int *p = 0, *q = NULL; int main(void) { return 0; }",
     b"int a[65536]; int main(void) { return 0; }",
+    b"int a[65535]; int b; int main(void) { return 0; }",
     b"int f(int); int f(int a) { return a; } int main(void) { return 0; }",
     b"int main() { return 0; }",
 ];

@@ -1,18 +1,12 @@
 // Programs read from their text, worked by hand from the grammar.
-use crate::expression_tests::{repeated, shown};
-use crate::sources::ALL;
-use ca_lex::{LexNo, tokens};
-use ca_read::{ReadNo, program};
-use ca_tree::tree::{Program, Right, Simple, Stmt, Top};
+use crate::expression_tests::shown;
+use crate::readings::{read_program as read, repeated};
+use ca_lex::LexNo;
+use ca_read::ReadNo;
+use ca_sources::ALL;
+use ca_tree::tree::{Right, Simple, Stmt, Top};
 use std::alloc::{AllocError, Global};
 use std::test::Fail;
-
-// What the tokens of a text are read as.
-#[tactic(auto, using(ca_grammar::proofs::LexedEnds::ends_once))]
-fn read(alloc: Global, text: &[u8]) -> Result<Result<Program, ReadNo>, LexNo> {
-    let found = tokens(alloc, text)?;
-    Ok(program(alloc, &found))
-}
 
 // `read` for a program, or the fault and its place.
 fn answer(alloc: Global, text: &[u8]) -> Result<String, AllocError> {

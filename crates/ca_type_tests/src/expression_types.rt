@@ -1,13 +1,10 @@
 // Expressions with their types, worked by hand from the rules on names and types.
-use crate::expression_tests::read;
 use ca_bodies::aim_at;
-use ca_model::{
-    Exp as TypedExp, Kind, Meaning, ObjectType, Operand, Place, Target, TypeFault, ValueType,
-    Wanted,
-};
+use ca_model::{Kind, Meaning, ObjectType, Operand, Target, TypeFault, ValueType, Wanted};
 use ca_operands::{Faults, FieldOf, INT, Scope, THREAD, VOID_POINTER, operand, value_in};
 use ca_tree::tree::Exp;
 use ca_tree::{GlobalId, MutexId, NoMemory, StructId, VarId};
+use ca_worked::{place_shown, read_expression as read, shown};
 use std::alloc::{AllocError, Global};
 use std::test::Fail;
 
@@ -107,62 +104,6 @@ fn value_type_shown(alloc: Global, of: ValueType) -> Result<String, AllocError> 
         ValueType::Thread => format!(in alloc; "pthread_t"),
         ValueType::Null => format!(in alloc; "NULL"),
         ValueType::Pointer(to) => type_shown(alloc, to.kind, to.stars.saturating_add(1)),
-    }
-}
-
-// Its address, the index and the cells of an element, the field, and a `!` where it is a site.
-#[cycle(typed)]
-fn place_shown(alloc: Global, place: &Place) -> Result<String, AllocError> {
-    let base = shown(alloc, place.base.get())?;
-    let mark = if place.through { "!" } else { "" };
-    match &place.index {
-        Some((index, cells)) => {
-            let index = shown(alloc, index.get())?;
-            format!(in alloc; "{base}[{index}*{cells}].{}{mark}", place.field)
-        }
-        None => format!(in alloc; "{base}.{}{mark}", place.field),
-    }
-}
-
-// An expression in prefix form; a load as the type that it is loaded at.
-#[cycle(typed)]
-fn shown(alloc: Global, exp: &TypedExp) -> Result<String, AllocError> {
-    match exp {
-        TypedExp::Num(number) => format!(in alloc; "{number}"),
-        TypedExp::Null => format!(in alloc; "NULL"),
-        TypedExp::Local(var) => format!(in alloc; "L{}", var.0),
-        TypedExp::Global(global) => format!(in alloc; "G{}", global.0),
-        TypedExp::Load(place, kind) => {
-            let place = place_shown(alloc, place)?;
-            format!(in alloc; "{kind:?}({place})")
-        }
-        TypedExp::AddressOf(place) => {
-            let place = place_shown(alloc, place)?;
-            format!(in alloc; "Address({place})")
-        }
-        TypedExp::Negate(a) => {
-            let a = shown(alloc, a.get())?;
-            format!(in alloc; "Negate({a})")
-        }
-        TypedExp::Not(a) => {
-            let a = shown(alloc, a.get())?;
-            format!(in alloc; "Not({a})")
-        }
-        TypedExp::Binary(operator, a, b) => {
-            let a = shown(alloc, a.get())?;
-            let b = shown(alloc, b.get())?;
-            format!(in alloc; "{operator:?}({a}, {b})")
-        }
-        TypedExp::And(a, b) => {
-            let a = shown(alloc, a.get())?;
-            let b = shown(alloc, b.get())?;
-            format!(in alloc; "And({a}, {b})")
-        }
-        TypedExp::Or(a, b) => {
-            let a = shown(alloc, a.get())?;
-            let b = shown(alloc, b.get())?;
-            format!(in alloc; "Or({a}, {b})")
-        }
     }
 }
 

@@ -1,6 +1,7 @@
 // Expressions read from their text, worked by hand from the rules of C11 6.5.
-use ca_lex::{LexNo, tokens};
-use ca_read::{Operand, ReadNo, expression};
+use crate::readings::{read_expression as read, repeated};
+use ca_lex::LexNo;
+use ca_read::ReadNo;
 use ca_tree::tree::Exp;
 use ca_tree::{Pos, Text};
 use std::alloc::{AllocError, Global};
@@ -41,13 +42,6 @@ pub(crate) fn shown(alloc: Global, exp: &Exp) -> Result<String, AllocError> {
             format!(in alloc; "{a}->{}", text_of(&name.text))
         }
     }
-}
-
-// What the tokens of a text are read as.
-#[tactic(auto, using(ca_grammar::proofs::LexedEnds::ends_once))]
-pub(crate) fn read(alloc: Global, text: &[u8]) -> Result<Result<Operand, ReadNo>, LexNo> {
-    let found = tokens(alloc, text)?;
-    Ok(expression(alloc, &found))
 }
 
 fn at(alloc: Global, pos: Pos) -> Result<String, AllocError> {
@@ -196,22 +190,6 @@ fn a_text_that_is_cut_or_changed_has_its_fault_there(rt: HostRuntime) -> Result<
         }
     }
     Ok(())
-}
-
-// Some bytes, others a number of times, and others again.
-pub(crate) fn repeated(
-    alloc: Global,
-    front: &[u8],
-    middle: &[u8],
-    times: u32,
-    back: &[u8],
-) -> Result<Vec<u8>, AllocError> {
-    let mut text = Vec::from_slice(alloc, front)?;
-    for _ in 0..times {
-        text.extend_from_slice(middle)?;
-    }
-    text.extend_from_slice(back)?;
-    Ok(text)
 }
 
 // What is repeated between two texts up to which number of times, and the fault with one more.

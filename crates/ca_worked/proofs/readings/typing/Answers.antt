@@ -1,7 +1,7 @@
 use Rattle.std.proofs.Common.{List, subst, sym}
 use Rattle.ca_tree.specs.declared.token.Token.{Token}
 use Rattle.ca_tree.specs.Lexed.{HasTokens}
-use Rattle.conair.proofs.types_tests.answer.Goals as goal
+use Rattle.ca_worked.proofs.readings.typing.Goals as goal
 
 pub check_types-requires : goal.check_types-requires
 check_types-requires c =

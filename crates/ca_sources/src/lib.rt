@@ -1,14 +1,15 @@
-//! The worked sources.
+//! The worked sources, as texts.
+#![tactic(auto)]
 
 /// A `main` that returns.
-pub(crate) const EMPTY_MAIN: &[u8] = b"int main(void){ return 0; }";
+pub const EMPTY_MAIN: &[u8] = b"int main(void){ return 0; }";
 
 /// A sum that is printed.
-pub(crate) const PRINTED_SUM: &[u8] =
+pub const PRINTED_SUM: &[u8] =
     b"int g; int main(void){ g = 2 + 3; printf(\"%d\\n\", g); return 0; }";
 
 /// A thread that asserts too early.
-pub(crate) const WATCH: &[u8] = b"int ready;
+pub const WATCH: &[u8] = b"int ready;
 void *watch(void *arg) {
   assert(ready == 1);
   return NULL;
@@ -22,7 +23,7 @@ int main(void) {
 }";
 
 /// Two threads that take two mutexes in opposed orders.
-pub(crate) const OPPOSED_LOCKS: &[u8] = b"pthread_mutex_t a = PTHREAD_MUTEX_INITIALIZER;
+pub const OPPOSED_LOCKS: &[u8] = b"pthread_mutex_t a = PTHREAD_MUTEX_INITIALIZER;
 pthread_mutex_t b = PTHREAD_MUTEX_INITIALIZER;
 int n;
 void *one(void *arg) {
@@ -53,7 +54,7 @@ int main(void) {
 }";
 
 /// A thread that locks its own mutex again.
-pub(crate) const SELF_LOCK: &[u8] = b"pthread_mutex_t m;
+pub const SELF_LOCK: &[u8] = b"pthread_mutex_t m;
 int main(void) {
   pthread_mutex_lock(&m);
   pthread_mutex_lock(&m);
@@ -61,7 +62,7 @@ int main(void) {
 }";
 
 /// A read through a pointer that is still null.
-pub(crate) const NULL_POINTER: &[u8] = b"int *p;
+pub const NULL_POINTER: &[u8] = b"int *p;
 void *use(void *arg) {
   printf(\"%d\\n\", *p);
   return NULL;
@@ -76,7 +77,7 @@ int main(void) {
 }";
 
 /// A block before an assertion.
-pub(crate) const GIVEN_BLOCK: &[u8] = b"int ok;
+pub const GIVEN_BLOCK: &[u8] = b"int ok;
 void *f(void *arg) {
   int *q = malloc(2 * sizeof(int));
   assert(ok);
@@ -92,7 +93,7 @@ int main(void) {
 }";
 
 /// An assertion in a called function.
-pub(crate) const THROUGH_CALLER: &[u8] = b"int g;
+pub const THROUGH_CALLER: &[u8] = b"int g;
 void need(int v) {
   assert(v == 1);
 }
@@ -110,7 +111,7 @@ int main(void) {
 }";
 
 /// A loop whose condition is a site.
-pub(crate) const LOOP_POINTS: &[u8] = b"int a[2];
+pub const LOOP_POINTS: &[u8] = b"int a[2];
 int n;
 int main(void) {
   int i = 0;
@@ -122,7 +123,7 @@ int main(void) {
 }";
 
 /// Producers and a consumer of a bounded buffer.
-pub(crate) const BOUNDED_BUFFER: &[u8] = b"#include <pthread.h>
+pub const BOUNDED_BUFFER: &[u8] = b"#include <pthread.h>
 #include <stdio.h>
 #include <stdlib.h>
 #include <assert.h>
@@ -200,7 +201,8 @@ int main(void)
     return 0;
 }";
 
-pub(crate) const ALL: [&[u8]; 10] = [
+/// All of them.
+pub const ALL: [&[u8]; 10] = [
     EMPTY_MAIN,
     PRINTED_SUM,
     WATCH,
