@@ -1,3 +1,4 @@
 pub mod Equals
 pub mod Meaning
 pub mod PartTexts
+pub mod OneMeaning
