@@ -2,12 +2,15 @@
 use Rattle.std.proofs.Common.{◌≡◌, ◌<◌, ℕ, List, [], ◌∷◌, Option, Err, refl, sym, subst, inl, inr, arith, append-nil, ◌∙◌}
 use Rattle.std.specs.Prelude.{◌⊎◌, ◌≢◌, Ok}
 use Rattle.ca_model.specs.Reports.{ending_status}
-use Rattle.ca_cmd.specs.Commands.{IsRunOf, Load, Cause, Misworded, Unread, TooLong, NoTokens, NoProgram, NotBuilt, Ran, status, out_text, memory_text, Stands}
+use Rattle.ca_model.specs.declared.values.Ending.{Ending}
+use Rattle.ca_model.specs.declared.values.Ending.TheVariants as ending
+use Rattle.ca_cmd.specs.Commands.{NamesFile, Cause, Misworded, Unread, TooLong, NoTokens, NoProgram, Untyped, Ran, status, out_text, memory_text}
+use Rattle.ca_words.specs.Words.{IsRunOf, RunOptions}
 use Rattle.ca_io.specs.Ports.{PutPort, LoadPort, put_port, Wrote, WrotePart, HasFailed}
 use Rattle.ca_io.proofs.Puts.{appends_nothing, part_whole}
 use Rattle.ca_cmd.specs.declared.refusals.ServeNo.{ServeNo}
 use Rattle.ca_cmd.specs.declared.refusals.ServeNo.TheVariants as serve_no
-use Rattle.ca_cmd.specs.Serving.{AskPort, ask_port, Asked, MayGive, Arises, Answers, IsCut, Closes, Tells, Serves}
+use Rattle.ca_cmd.specs.Serving.{AskPort, ask_port, Asked, Arises, Answers, IsCut, Closes, Tells, Serves}
 
 -- a cause is answered; or a put failed, or memory ran out
 abbrev pub Ends : List (List ℕ) → LoadPort → AskPort → PutPort → PutPort → ℕ → Type 0
@@ -26,20 +29,28 @@ part_of : (p : PutPort) (text : List ℕ) → Wrote p text → WrotePart p text
 part_of p text w = part_whole p.old p.new text w.whole
 
 -- no cause has a status of what is cut short
-small : (words : List (List ℕ)) (Gives : List ℕ → Load → Type 0) (cause : Cause) → Stands words Gives cause → status cause < 7
-small words Gives Misworded stands = omega arith
-small words Gives (Unread name) stands = omega arith
-small words Gives (TooLong name) stands = omega arith
-small words Gives (NoTokens name f) stands = omega arith
-small words Gives (NoProgram name f) stands = omega arith
-small words Gives (NotBuilt name) stands = omega arith
-small words Gives (Ran name p events last end) stands =
-    elim stands.1.ended [
-      | inl finished ↦ subst (λ e. ending_status e < 7) (sym finished) (omega arith)
-      | inr failed ↦ subst (λ e. ending_status e < 7) (sym failed) (omega arith)
-    ]
+small_ending : (end : Ending) → ending_status end < 7
+small_ending ending.Finished = omega arith
+small_ending (ending.Fault k) = omega arith
+small_ending ending.Deadlock = omega arith
+small_ending ending.Unended = omega arith
+small_ending ending.Events = omega arith
+small_ending ending.Frames = omega arith
 
-module _ (words : List (List ℕ)) (files : LoadPort) (asks : AskPort) (out : PutPort) (name : List ℕ) (said : IsRunOf words name) (nothing : Wrote out []) where
+small : (cause : Cause) → status cause < 7
+small Misworded = omega arith
+small (Unread name) = omega arith
+small (TooLong name) = omega arith
+small (NoTokens name f) = omega arith
+small (NoProgram name f) = omega arith
+small (Untyped name f) = omega arith
+small (Ran o p plan events last end) = small_ending end
+
+-- words name their file
+pub named : (words : List (List ℕ)) (o : RunOptions) → IsRunOf words o → NamesFile words o.name
+named words o said = record { options = o; said = said; is = refl }
+
+module _ (words : List (List ℕ)) (files : LoadPort) (asks : AskPort) (out : PutPort) (name : List ℕ) (said : NamesFile words name) (nothing : Wrote out []) where
   -- memory ran out before the file was loaded, and after that
   pub before_load : asks.new ≡ asks.old → Serves words files asks out name (Err serve_no.NoMemory)
   before_load same = inr (name ∷ [], (name, said, refl), ([], name ∷ [], refl, same ∙ sym (append-nil asks.old)), nothing)
@@ -75,12 +86,24 @@ module _ (words : List (List ℕ)) (files : LoadPort) (asks : AskPort) (out err 
 
     short : Serves words files asks out name (Err serve_no.NoMemory) → WrotePart err memory_text → IsCut words files asks out err
     short (inl (cause, arises, part)) on_err = inl (cause, record { arises = arises; on_out = part; on_err = inr on_err })
-    short (inr (names, named, asked, wrote)) on_err = inr (record { names = names; named = named; asked = asked; on_out = wrote; on_err = on_err })
+    short (inr (names, named, asked, wrote)) on_err = inr (record { asked = inr (names, named, asked); on_out = wrote; on_err = on_err })
 
     pub ends_starved : Serves words files asks out name (Err serve_no.NoMemory) → Closes 8 memory_text result err → Ends words files asks out err result
     ends_starved serves (inl told) = inr (inr (told.0, short serves (part_of err memory_text told.1)))
     ends_starved serves (inr (inl failed)) = inr (inl (failed.0, inr failed.2, short serves failed.1))
     ends_starved serves (inr (inr starved)) = inr (inr (starved.0, short serves starved.1))
+
+  -- memory that ran out before the words were known
+  pub ends_unread : Asked asks [] → Wrote out [] → Closes 8 memory_text result err → Ends words files asks out err result
+  ends_unread asked wrote closes = told closes
+    where
+      unread : WrotePart err memory_text → IsCut words files asks out err
+      unread on_err = inr (record { asked = inl asked; on_out = wrote; on_err = on_err })
+
+      told : Closes 8 memory_text result err → Ends words files asks out err result
+      told (inl whole) = inr (inr (whole.0, unread (part_of err memory_text whole.1)))
+      told (inr (inl failed)) = inr (inl (failed.0, inr failed.2, unread failed.1))
+      told (inr (inr starved)) = inr (inr (starved.0, unread starved.1))
 
   -- the clauses
   pub answered_at : Ends words files asks out err result → result ≢ 7 → result ≢ 8 → (cause : Cause) × Answers words files asks out err cause result
@@ -89,7 +112,7 @@ module _ (words : List (List ℕ)) (files : LoadPort) (asks : AskPort) (out err 
   answered_at (inr (inr (is, cut))) no_seven no_eight = absurd (no_eight is)
 
   below : (cause : Cause) → Answers words files asks out err cause result → result < 7
-  below cause answers = subst (λ n. n < 7) (sym answers.is_status) (small words (MayGive files) cause answers.arises.stands)
+  below cause answers = subst (λ n. n < 7) (sym answers.is_status) (small cause)
 
   pub cut_at : Ends words files asks out err result → (result ≡ 7) ⊎ (result ≡ 8) → IsCut words files asks out err
   cut_at (inl (cause, answers)) (inl seven) = let less = below cause answers in absurd (omega (arith, less, seven))

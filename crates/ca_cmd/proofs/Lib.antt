@@ -1,10 +1,5 @@
-pub mod SumAsks
-pub mod Sums
-pub mod SumSteps
-pub mod SumRuns
-pub mod SumActs
-pub mod SumEnds
-pub mod Lists
 pub mod Reporting
 pub mod Ends
+pub mod Sources
+pub mod Running
 pub mod Statuses

@@ -10,6 +10,8 @@ use Rattle.ca_grammar.specs.declared.faults.LeftOut.{LeftOut}
 use Rattle.ca_grammar.specs.declared.faults.LeftOut.TheVariants as left_out
 use Rattle.ca_grammar.specs.declared.faults.ReadKind.{ReadKind}
 use Rattle.ca_grammar.specs.declared.faults.ReadKind.TheVariants as read
+use Rattle.ca_model.specs.declared.types.TypeKind.{TypeKind}
+use Rattle.ca_model.specs.declared.types.TypeKind.TheVariants as typed
 
 abbrev pub lex_words : LexKind → List ℕ
 lex_words lex.TooLong = codes "TooLong"
@@ -43,6 +45,17 @@ abbrev pub read_words : ReadKind → List ℕ
 read_words read.Grammar = codes "Grammar"
 read_words (read.LeftOut part) = left_out_words part
 read_words (read.TooMany of) = too_many_words of
+
+abbrev pub type_words : TypeKind → List ℕ
+type_words typed.Unknown = codes "Unknown"
+type_words typed.Twice = codes "Twice"
+type_words typed.ThreadForm = codes "ThreadForm"
+type_words typed.NotLvalue = codes "NotLvalue"
+type_words typed.Directive = codes "Directive"
+type_words typed.Mismatch = codes "Mismatch"
+type_words typed.TooManyLocals = codes "TooManyLocals"
+type_words typed.TooManyCells = codes "TooManyCells"
+type_words typed.NoMain = codes "NoMain"
 
 abbrev pub fault_at : Pos → List ℕ → List ℕ
 fault_at p words = codes ":" ++ (decimal p.line ++ (codes ":" ++ (decimal p.column ++ (codes ": " ++ words))))

@@ -1,5 +1,6 @@
 pub mod FaultTexts
-pub mod Commands
+pub mod Sources
+pub mod Reading
 pub mod Runs
-pub mod Running
+pub mod Commands
 pub mod Serving

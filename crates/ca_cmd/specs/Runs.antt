@@ -1,41 +1,46 @@
--- What the runs of the program are in the model.
-use Rattle.std.specs.Prelude.{◌≡◌, ◌⊎◌, List, All}
+-- How the words of a command have a source run, and what a run of it is.
+use Rattle.std.specs.Prelude.{◌≡◌, ℕ, List, [], Option, Some, None}
+use Rattle.ca_model.specs.declared.plan.Plan.{Plan}
 use Rattle.ca_model.specs.declared.values.Event.{Event}
-use Rattle.ca_model.specs.declared.values.EventAct.{EventAct}
-use Rattle.ca_model.specs.declared.values.EventAct.TheVariants as act
-use Rattle.ca_model.specs.declared.values.FaultKind.TheVariants as fault
 use Rattle.ca_model.specs.declared.values.Ending.{Ending}
-use Rattle.ca_model.specs.declared.values.Ending.TheVariants as ending
-use Rattle.ca_model.specs.Private.{Thread}
-use Rattle.ca_model.specs.Machine.{State}
-use Rattle.ca_model.specs.Codes.{Typed}
-use Rattle.ca_model.specs.SourceRuns.{IsSourceRun, IsOver}
+use Rattle.ca_model.specs.Codes.{Typed, code_of}
+use Rattle.ca_model.specs.Hardened.{Hardened, hardened}
+use Rattle.ca_model.specs.Machine.{State, Run}
+use Rattle.ca_model.specs.Opening.{opening}
+use Rattle.ca_model.specs.Runner as runner
+use Rattle.ca_model.specs.Schedules.{Schedule, by_list, by_seed}
+use Rattle.ca_model.specs.SourceRuns.{no_plan}
+use Rattle.ca_machine.specs.Machines.{Reaches}
+use Rattle.ca_words.specs.Words.{RunOptions}
 use Rattle.ca_cmd.specs.declared.run.SourceRun.{SourceRun}
-use Rattle.ca_cmd.specs.Running.{Traced}
 
--- a run of this source from its opening, which is over, with its output
-pub record IsRunOfSource (p : Typed) (r : SourceRun) : Type 0 where
-  pub last : State Thread
-  pub run : IsSourceRun p r.events.items last r.ending
-  pub over : IsOver r.ending
-  pub output : last.shared.output ≡ r.output.items
+-- a list is followed, or the words of a seed; without either the threads move in turn
+abbrev pub scheduled : Option (List ℕ) → Option ℕ → Schedule
+scheduled (Some ts) seed = by_list ts
+scheduled None (Some n) = by_seed n
+scheduled None None = by_list []
 
--- a read, a write, a print, an end or a fault
-abbrev pub IsSimple : EventAct → Type 0
-IsSimple (act.Read at x) = Unit {0}
-IsSimple (act.Write at x) = Unit {0}
-IsSimple (act.Print text) = Unit {0}
-IsSimple act.End = Unit {0}
-IsSimple (act.Fault k) = Unit {0}
-IsSimple _ = ⊥
+abbrev pub schedule_of : RunOptions → Schedule
+schedule_of o = scheduled o.schedule o.seed
 
-abbrev pub AreSimple : List Event → Type 0
-AreSimple events = All (λ e. IsSimple e.act) events
+-- the most entries of a run
+abbrev pub most_events : Option ℕ → ℕ
+most_events None = 200000
+most_events (Some n) = n
 
--- the run finished, or a sum has no value
-abbrev pub HasEnded : Ending → Type 0
-HasEnded e = (e ≡ ending.Finished) ⊎ (e ≡ ending.Fault fault.Arith)
+-- after so many entries of others a thread has waited out at a held lock
+abbrev pub patience : ℕ
+patience = 10
 
--- its events, output and ending
-abbrev pub traced : SourceRun → Traced
-traced r = record { events = r.events.items; output = r.output.items; ending = r.ending }
+-- the runner's one list for the words, with its ending, and the state that it reaches from the opening
+pub record IsRun (p : Typed) (o : RunOptions) (plan : Plan) (events : List Event) (last : State Hardened) (end : Ending) : Type 0 where
+  pub plain : plan ≡ no_plan
+  pub run : runner.IsRunOf p plan (schedule_of o) (most_events o.events) patience events end
+  pub reached : Run (hardened (code_of p plan)) (opening (hardened (code_of p plan)) p) events last
+
+-- a machine that has made this run
+pub record IsRunAs (p : Typed) (o : RunOptions) (r : SourceRun) : Type 0 where
+  pub source : r.machine.source ≡ p
+  pub last : State Hardened
+  pub reaches : Reaches r.machine last
+  pub run : IsRun p o r.machine.plan r.machine.trace last r.ending

@@ -1,6 +1,6 @@
 -- What the top call answers and writes, by its words, what is told of the files, and what its puts did.
 use Rattle.std.specs.Prelude.{◌≡◌, ◌≤◌, ◌<◌, ◌⊎◌, ℕ, List, [], ◌++◌, length, IfSome, Some, Result, Ok, Err}
-use Rattle.ca_cmd.specs.Commands.{source_limit, NamesFiles, Load, Loaded, Exceeded, Unloaded, Cause, Unread, TooLong, NoTokens, NoProgram, NotBuilt, Ran, status, asked_names, out_text, err_text, memory_text, Stands}
+use Rattle.ca_cmd.specs.Commands.{source_limit, NamesFiles, Load, Loaded, Exceeded, Unloaded, Cause, Unread, TooLong, NoTokens, NoProgram, Untyped, status, asked_names, out_text, err_text, memory_text, Stands}
 use Rattle.ca_cmd.specs.declared.refusals.Refusal.{Refusal}
 use Rattle.ca_cmd.specs.declared.refusals.Refusal.TheVariants as refusal
 use Rattle.ca_cmd.specs.declared.refusals.ServeNo.{ServeNo}
@@ -54,11 +54,10 @@ pub record Breaks (words : List (List ℕ)) (files : LoadPort) (asks : AskPort) 
   pub on_out : WrotePart out (out_text cause)
   pub on_err : WrotePart err (err_text cause) ⊎ WrotePart err memory_text
 
--- memory ran out before it was known which cause is there: of the files that the words name some were asked for, and nothing was put to `out`
+-- memory ran out before it was known which cause is there: of the files that the words name some were asked for, or none since the words weren't known, and
+-- nothing was put to `out`
 pub record IsStarved (words : List (List ℕ)) (asks : AskPort) (out err : PutPort) : Type 0 where
-  pub names : List (List ℕ)
-  pub named : NamesFiles words names
-  pub asked : AskedPart asks names
+  pub asked : Asked asks [] ⊎ ((names : List (List ℕ)) × NamesFiles words names × AskedPart asks names)
   pub on_out : Wrote out []
   pub on_err : WrotePart err memory_text
 
@@ -71,11 +70,6 @@ pub record NoneFailed (files : LoadPort) (out err : PutPort) : Type 0 where
   pub no_load : HasFailedLoad files → ⊥
   pub no_out : HasFailed out → ⊥
   pub no_err : HasFailed err → ⊥
-
--- the status that a cause gives: its own; where a source is run, that of one of its runs, which are over, and in which nothing waits
-abbrev pub Decides : Cause → ℕ → Type 0
-Decides (Ran name p events last end) n = (n ≡ 0) ⊎ (n ≡ 1)
-Decides cause n = n ≡ status cause
 
 -- one text was put, with this status; or the put failed or found no memory
 abbrev pub Closes : ℕ → List ℕ → ℕ → PutPort → Type 0
@@ -91,7 +85,7 @@ cause_of name refusal.Unread = Unread name
 cause_of name refusal.TooLong = TooLong name
 cause_of name (refusal.NoTokens fault) = NoTokens name fault
 cause_of name (refusal.NoProgram fault) = NoProgram name fault
-cause_of name refusal.NotBuilt = NotBuilt name
+cause_of name (refusal.Untyped fault) = Untyped name fault
 
 -- what serving the files that the words name answers: the status of a cause that puts nothing to `err` and whose text was put whole; a refusal, whose cause is
 -- there; that a put of such a text failed; or that memory ran out, while the text was put or before a cause was known

@@ -1,8 +1,9 @@
 // The words of faults.
 ghost use Rattle.std.specs.Prelude.{◌≡◌};
-ghost use Rattle.ca_cmd.specs.FaultTexts.{lex_words, left_out_words, too_many_words, read_words};
+ghost use Rattle.ca_cmd.specs.FaultTexts.{lex_words, left_out_words, too_many_words, read_words, type_words};
 
 use ca_grammar::{Counted, LeftOut, ReadKind};
+use ca_model::TypeKind;
 use ca_tree::LexKind;
 
 /// The name of a kind of faults of a text without tokens.
@@ -57,5 +58,22 @@ pub fn read_words(kind: ReadKind) -> &'static str
         ReadKind::Grammar => "Grammar",
         ReadKind::LeftOut(part) => left_out_words(part),
         ReadKind::TooMany(of) => too_many_words(of),
+    }
+}
+
+/// The name of a kind of faults of a program without a typing.
+pub fn type_words(kind: TypeKind) -> &'static str
+    ensures { result.now ≡ type_words kind }
+{
+    match kind {
+        TypeKind::Unknown => "Unknown",
+        TypeKind::Twice => "Twice",
+        TypeKind::ThreadForm => "ThreadForm",
+        TypeKind::NotLvalue => "NotLvalue",
+        TypeKind::Directive => "Directive",
+        TypeKind::Mismatch => "Mismatch",
+        TypeKind::TooManyLocals => "TooManyLocals",
+        TypeKind::TooManyCells => "TooManyCells",
+        TypeKind::NoMain => "NoMain",
     }
 }

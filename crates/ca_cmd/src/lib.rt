@@ -5,9 +5,7 @@ mod command;
 mod fault_texts;
 mod reading;
 mod refusals;
-mod report;
 mod run;
-mod words;
 
 pub use command::command_alone;
 pub use refusals::out_of_memory;

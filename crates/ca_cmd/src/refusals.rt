@@ -5,9 +5,10 @@ ghost use Rattle.ca_cmd.specs.Commands.{message, memory_text};
 ghost use Rattle.ca_io.specs.Ports.{put_port};
 ghost use Rattle.ca_cmd.specs.Serving.{Closes, Tells, cause_of};
 
-use crate::fault_texts::{lex_words, read_words};
+use crate::fault_texts::{lex_words, read_words, type_words};
 use ca_grammar::ReadFault;
 use ca_io::{PutNo, Sink};
+use ca_model::TypeFault;
 use ca_tree::{LexFault, Pos};
 use std::alloc::{AllocError, Global};
 
@@ -22,8 +23,8 @@ pub enum Refusal {
     NoTokens(LexFault),
     /// Its tokens are no program within the limits: their first fault.
     NoProgram(ReadFault),
-    /// It is a program of no form that is built.
-    NotBuilt,
+    /// It is a program that has no typing: its first fault.
+    Untyped(TypeFault),
 }
 
 /// Why a file was not served.
@@ -103,6 +104,6 @@ pub fn refuse<E: Sink>(alloc: Global, name: &str, refusal: Refusal, err: &mut E)
             fault.pos,
             read_words(fault.kind),
         ),
-        Refusal::NotBuilt => tell(alloc, err, 3, "conair: ", name, ": not built yet"),
+        Refusal::Untyped(fault) => tell_fault(alloc, err, name, fault.pos, type_words(fault.kind)),
     }
 }

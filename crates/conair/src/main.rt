@@ -1,9 +1,6 @@
 //! The program: its arguments are the words of a command.
 #![tactic(auto)]
 
-#[cfg(test)]
-mod command_tests;
-
 use ca_cmd::{command_alone, out_of_memory};
 use ca_io::{HostFiles, HostSink};
 use std::alloc::Global;

@@ -11,8 +11,6 @@ const PRINT_SUM: &[u8] = b"int g; int main(void){ g = 2 + 3; printf(\"%d\\n\", g
 
 const REPORT: &str = "trace 1\n0 end\nending finished\noutput 0\n";
 
-const NOT_BUILT: &str = "conair: a.c: not built yet\n";
-
 const MISWORDED: &str = "conair: words not understood\n";
 
 // What a call is given: its words, the source in `a.c`, and the numbers of the loads and puts that fail.
@@ -101,47 +99,6 @@ fn empty_main(rt: HostRuntime) -> Result<(), Fail> {
     Ok(())
 }
 
-const UNBUILT: [&[u8]; 20] = [
-    b"",
-    b"int x;",
-    b"int main(void){ if (1) return 0; return 1; }",
-    b"int main(void){ return -1; }",
-    b"int main(void){ return (1); }",
-    b"int main(void){ return; }",
-    b"int main(){ return 0; }",
-    b"static int x; int main(void){ return 0; }",
-    b"int Main(void){ return 0; }",
-    b"int main(void){ return 0; } int main(void){ return 0; }",
-    b"int main; int main(void){ return 0; }",
-    b"int printf; int main(void){ return 0; }",
-    b"int x; int x; int main(void){ return 0; }",
-    b"int x = 1; int main(void){ return 0; }",
-    b"int x, y; int main(void){ return 0; }",
-    b"int g; int main(void){ h = 1; return 0; }",
-    b"int g; int main(void){ g = h; return 0; }",
-    b"int x; int main(void){ x += 1; return 0; }",
-    b"int x; int main(void){ x = 1;; return 0; }",
-    b"int x; int main(void){ return 0; x = 1; }",
-];
-
-const UNBUILT_PRINTS: [&[u8]; 4] = [
-    b"int x; int main(void){ printf(\"%d\", x); return 0; }",
-    b"int x; int main(void){ printf(\"%d\\n\"); return 0; }",
-    b"int x; int main(void){ printf(\"%d\\n\", x, x); return 0; }",
-    b"int x; int main(void){ printf(\"%d\\n\", x - x); return 0; }",
-];
-
-#[test]
-fn not_built_yet(rt: HostRuntime) -> Result<(), Fail> {
-    for source in UNBUILT {
-        refuses(&rt, rt.alloc(), source)?;
-    }
-    for source in UNBUILT_PRINTS {
-        refuses(&rt, rt.alloc(), source)?;
-    }
-    Ok(())
-}
-
 const LEX_FAULTS: [(&[u8], &str); 14] = [
     (b"int main(void) { /* x", "1:18: OpenComment"),
     (b"int g;\n\xff", "2:1: NotUtf8"),
@@ -196,6 +153,35 @@ const READ_FAULTS: [(&[u8], &str); 16] = [
     ),
 ];
 
+const TYPE_FAULTS: [(&[u8], &str); 11] = [
+    (b"", "1:1: NoMain"),
+    (b"int Main(void){ return 0; }", "1:1: NoMain"),
+    (b"int main(void) { x = 1; return 0; }", "1:18: Unknown"),
+    (
+        b"int g; int main(void){ g = h; return 0; }",
+        "1:28: Unknown",
+    ),
+    (b"int g; int g; int main(void) { return 0; }", "1:12: Twice"),
+    (b"int printf; int main(void){ return 0; }", "1:5: Twice"),
+    (b"int main(void){ return; }", "1:17: Mismatch"),
+    (
+        b"int main(void){ printf(\"%s\"); return 0; }",
+        "1:24: Directive",
+    ),
+    (
+        b"int main(void){ int x; int *p = &(x + 1); return 0; }",
+        "1:35: NotLvalue",
+    ),
+    (
+        b"int a[65537]; int main(void){ return 0; }",
+        "1:5: TooManyCells",
+    ),
+    (
+        b"int f(void){ return 0; } int main(void){ pthread_t t; pthread_create(&t, NULL, f, NULL); return 0; }",
+        "1:80: ThreadForm",
+    ),
+];
+
 // A fault with its place.
 fn faulty(rt: &impl Abort, alloc: Global, source: &[u8], fault: &str) -> Result<(), Fail> {
     let err = format!(in alloc; "conair: a.c:{fault}\n")?;
@@ -215,7 +201,16 @@ fn the_first_fault_is_told_with_its_place(rt: HostRuntime) -> Result<(), Fail> {
     for (source, fault) in READ_FAULTS {
         faulty(&rt, rt.alloc(), source, fault)?;
     }
-    // a fault of the tokens comes before one of the grammar
+    for (source, fault) in TYPE_FAULTS {
+        faulty(&rt, rt.alloc(), source, fault)?;
+    }
+    // a fault of the tokens comes before one of the grammar, and this before one of types
+    faulty(
+        &rt,
+        rt.alloc(),
+        b"int main(void){ x = 1; return 0 }",
+        "1:33: Grammar",
+    )?;
     faulty(
         &rt,
         rt.alloc(),
@@ -236,15 +231,6 @@ fn reports(
         status,
         out,
         err: "",
-    };
-    check(rt, alloc, run_of(source), wanted)
-}
-
-fn refuses(rt: &impl Abort, alloc: Global, source: &[u8]) -> Result<(), Fail> {
-    let wanted = Wanted {
-        status: 3,
-        out: "",
-        err: NOT_BUILT,
     };
     check(rt, alloc, run_of(source), wanted)
 }
@@ -366,34 +352,6 @@ fn sums_have_up_to_64_parts(rt: HostRuntime) -> Result<(), Fail> {
 }
 
 #[test]
-fn main_has_up_to_1000_acts(rt: HostRuntime) -> Result<(), Fail> {
-    let alloc = rt.alloc();
-    let most = repeated(
-        alloc,
-        "int g; int main(void){ ",
-        "g = 1; ",
-        1000,
-        "return 0; }",
-    )?;
-    let out = repeated(
-        alloc,
-        "trace 1001\n",
-        "0 write @0.0 1\n",
-        1000,
-        "0 end\nending finished\noutput 0\n",
-    )?;
-    reports(&rt, alloc, most.as_str().as_bytes(), 0, out.as_str())?;
-    let more = repeated(
-        alloc,
-        "int g; int main(void){ ",
-        "g = 1; ",
-        1001,
-        "return 0; }",
-    )?;
-    refuses(&rt, alloc, more.as_str().as_bytes())
-}
-
-#[test]
 fn there_are_up_to_1024_globals(rt: HostRuntime) -> Result<(), Fail> {
     let alloc = rt.alloc();
     let mut declarations = String::new(alloc);
@@ -420,7 +378,7 @@ fn words_refused(rt: HostRuntime) -> Result<(), Fail> {
         out: "",
         err: MISWORDED,
     };
-    let all: [&[&str]; 8] = [
+    let all: [&[&str]; 10] = [
         &[],
         &["run"],
         &["a.c"],
@@ -429,6 +387,8 @@ fn words_refused(rt: HostRuntime) -> Result<(), Fail> {
         &["Run", "a.c"],
         &["run", "-"],
         &["run", "--plain"],
+        &["run", "a.c", "--seed", "1", "--schedule", "0"],
+        &["run", "a.c", "--limit", "10001"],
     ];
     for words in all {
         check(&rt, rt.alloc(), said(words), wanted)?;

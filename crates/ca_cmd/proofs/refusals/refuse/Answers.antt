@@ -2,6 +2,3 @@ use Rattle.ca_cmd.proofs.refusals.refuse.Goals as goal
 
 pub returns-in-TooLong : goal.returns-in-TooLong
 returns-in-TooLong g c = rw c.in-TooLong.is c.tell-in-TooLong.ensures
-
-pub returns-in-NotBuilt : goal.returns-in-NotBuilt
-returns-in-NotBuilt g c = rw c.in-NotBuilt.is c.tell-in-NotBuilt.ensures

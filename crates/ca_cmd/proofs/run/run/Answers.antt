@@ -1,33 +1,23 @@
-use Rattle.std.proofs.Common.{◌≡◌, List, sym, subst}
-use Rattle.std.specs.Prelude.{pos, replicate}
-use Rattle.std.proofs.lemmas.Result.{IfOk-weaker}
-use Rattle.ca_tree.specs.declared.text.Pos.{Pos}
-use Rattle.ca_form.specs.declared.parts.Sums.{Sums}
-use Rattle.ca_form.specs.FirstForm.{typed}
-use Rattle.ca_cmd.specs.declared.run.SourceRun.{SourceRun}
-use Rattle.ca_cmd.specs.Runs.{IsRunOfSource, AreSimple, HasEnded, traced}
-use Rattle.ca_cmd.specs.Running.{Traced, acts_run}
-use Rattle.ca_cmd.proofs.SumActs.{is_run}
-use Rattle.ca_cmd.proofs.SumEnds.{run_ends, run_simple}
+use Rattle.std.proofs.Common.{◌≤◌, ◌<◌, ◌+◌, ◌^◌, length, [], ap, ◌∙◌, arith}
+use Rattle.ca_model.specs.declared.plan.Plan.{Plan}
+use Rattle.ca_model.specs.Codes.{Typed}
+use Rattle.ca_words.specs.Gathering.{options}
+use Rattle.ca_words.specs.Words.{RunOptions}
+use Rattle.ca_cmd.specs.Runs.{schedule_of, most_events}
+use Rattle.ca_cmd.proofs.Running.{opened, Went, went_so, limit_is, is_run, ends}
 use Rattle.ca_cmd.proofs.run.run.Goals as goal
 
--- the run of the sums from their cells at the opening
-abbrev whole : Sums → Traced
-whole f = acts_run f.acts f.returned (replicate f.globals (pos 0))
-
-abbrev IsWhole : Sums → SourceRun → Type 0
-IsWhole f r = traced r ≡ whole f
-
-pub returns-clause-is_run : goal.returns-clause-is_run
-returns-clause-is_run c =
-    IfOk-weaker c.follow.result (IsWhole c.args.form.now) (λ r. (places : List Pos) → IsRunOfSource (typed c.args.form.now places) r) (λ r is places. is_run c.args.form.now places c.requires r is) c.follow.ensures
+pub returns-clause-run : goal.returns-clause-run
+returns-clause-run c = is_run c.args.checked.now.typed (options c.args.words.now) c.run_alone.new.self c.in_ok-ending.ending
+    (went_so c.args.checked.now.typed _ _ _ _ _ _ _ (c.in_ok-machine.ensures ∙ ap (λ (q : Plan). record { source = c.args.checked.now.typed; plan = q; trace = [] }) c.empty.ensures) c.in_ok-schedule.ensures (c.unwrap_or-events.ensures ∙ limit_is c.args.words.now.events) c.in_ok-ending.ensures.ran)
 
 pub returns-clause-ended : goal.returns-clause-ended
 returns-clause-ended c =
-    IfOk-weaker c.follow.result (IsWhole c.args.form.now) (λ r. HasEnded r.ending)
-    (λ r is. subst (λ (t : Traced). HasEnded t.ending) (sym is) (run_ends c.args.form.now.acts c.args.form.now.returned (replicate c.args.form.now.globals (pos 0)))) c.follow.ensures
-
-pub returns-clause-simple : goal.returns-clause-simple
-returns-clause-simple c =
-    IfOk-weaker c.follow.result (IsWhole c.args.form.now) (λ r. AreSimple r.events.items)
-    (λ r is. subst (λ (t : Traced). AreSimple t.events) (sym is) (run_simple c.args.form.now.acts c.args.form.now.returned (replicate c.args.form.now.globals (pos 0)))) c.follow.ensures
+    let p : Typed = c.args.checked.now.typed in
+    let o : RunOptions = options c.args.words.now in
+    let went : Went p (most_events o.events) (schedule_of o) (opened p) c.run_alone.new.self c.in_ok-ending.ending =
+    went_so p _ _ _ _ _ _ _ (c.in_ok-machine.ensures ∙ ap (λ (q : Plan). record { source = p; plan = q; trace = [] }) c.empty.ensures) c.in_ok-schedule.ensures (c.unwrap_or-events.ensures ∙ limit_is c.args.words.now.events) c.in_ok-ending.ensures.ran in
+    let globals : length p.globals ≤ 1024 = (c.typed_programs_are_well_formed.ensures.bounded c.args.checked.now.program p c.program-program.ensures.checked.program c.program-program.ensures.checked.typing).globals in
+    let asked : most_events o.events ≤ 2000000 = c.requires in
+    let few : most_events o.events + length p.globals < 2 ^ 32 = omega (arith, globals, asked) in
+    ends p o c.run_alone.new.self c.in_ok-ending.ending went few

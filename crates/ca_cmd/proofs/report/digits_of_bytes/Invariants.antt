@@ -1,6 +1,0 @@
-use Rattle.std.proofs.Common.{◌≡◌, ◌++◌, drop, string_bytes}
-use Rattle.ca_model.specs.Traces.{hex_digits}
-use Rattle.ca_cmd.proofs.report.digits_of_bytes.Given as goal
-
-abbrev pub invariant-bytes : goal.invariant-bytes
-invariant-bytes l = string_bytes l.text ++ hex_digits (drop l.byte-index l.bytes) ≡ hex_digits l.bytes
