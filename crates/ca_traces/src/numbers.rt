@@ -1,6 +1,8 @@
 //! Numbers, addresses and values. A word is read as a whole.
 
-ghost use Rattle.std.specs.Prelude.{◌≡◌, ℕ, ◌<◌, ◌^◌, List, ◌∷◌, true, MatchOption, FitsSigned, w32, w64};
+ghost use Rattle.std.specs.Prelude.{◌≡◌, ℕ, ◌<◌, ◌^◌, ◌==◌, List, ◌∷◌, not, true, MatchOption, FitsSigned};
+ghost use Rattle.std.specs.Int.{w32, w64};
+ghost use Rattle.std.specs.List.{prefix_len};
 ghost use Rattle.std.specs.Fmt.{decimal, signed_decimal};
 ghost use Rattle.ca_model.specs.Traces.{address_text, value_text};
 ghost use Rattle.ca_traces.specs.Finding.{Finds, IsCut, lacks};
@@ -10,11 +12,18 @@ use ca_model::{Addr, Value};
 use itoa::Buffer;
 use std::str;
 
+// How many bytes stand before the first one of this kind, or before the end.
+fn front_len(text: &[u8], at: u8) -> usize
+    ensures { result ≡ prefix_len (λ b. not (b == at)) text.now }
+{
+    text.iter().take_while(|b| **b != at).count()
+}
+
 /// What stands before and behind the first byte of this kind, if there is one.
 pub(crate) fn cut(text: &[u8], at: u8) -> Option<(&[u8], &[u8])>
     ensures { MatchOption result (lacks at text.now ≡ true) (λ p. IsCut at text.now p.0.now p.1.now) }
 {
-    let len = text.iter().take_while(|b| **b != at).count();
+    let len = front_len(text, at);
     if len < text.len() {
         Some((&text[..len], &text[len + 1..]))
     } else {
