@@ -44,6 +44,12 @@ one_cut c (x ∷ xs) (y ∷ ys) u v p q e =
     let front : xs ≡ ys = t.0 in
     (cc, t.1)
 
+-- whether a text begins with these bytes
+abbrev pub begins : List ℕ → List ℕ → Bool
+begins [] text = true
+begins (p ∷ ps) [] = false
+begins (p ∷ ps) (b ∷ bs) = (p == b) && begins ps bs
+
 -- what `cut` finds
 
 run_more : (p : ℕ → Bool) (c : ℕ) (cs : List ℕ) → p c ≡ true → prefix_len p (c ∷ cs) ≡ suc (prefix_len p cs)

@@ -1,2 +1,5 @@
 pub mod Cutting
 pub mod Numerals
+pub mod Parts
+pub mod Bytes
+pub mod Things
