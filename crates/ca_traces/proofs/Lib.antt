@@ -3,3 +3,4 @@ pub mod Numerals
 pub mod Parts
 pub mod Bytes
 pub mod Things
+pub mod Lines

@@ -97,7 +97,7 @@ value_once (v.Num m) (v.Addr b) p q e = absurd (no_number m b p e)
 value_once (v.Addr a) (v.Num n) p q e = absurd (no_number n a q (sym e))
 value_once (v.Addr a) (v.Addr b) p q e = ap v.Addr (address_once a b p q e)
 
-zero_fits : (z : ℤ) → z ≡ pos 0 → FitsSigned w32 z
+pub zero_fits : (z : ℤ) → z ≡ pos 0 → FitsSigned w32 z
 zero_fits z e = rw e (search rules)
 
 pub zero_text : decimal 0 ≡ 48 ∷ []

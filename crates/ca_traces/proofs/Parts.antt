@@ -70,7 +70,7 @@ bare_fits act.End is = tt
 bare_fits act.Save is = tt
 bare_fits _ is = absurd cc
 
-in_front : (front rest words : List ℕ) → front ++ 32 ∷ rest ≡ words → lacks 32 words ≡ true → ⊥
+pub in_front : (front rest words : List ℕ) → front ++ 32 ∷ rest ≡ words → lacks 32 words ≡ true → ⊥
 in_front front rest words e free =
     let h : lacks 32 (front ++ 32 ∷ rest) ≡ true = rw e free in
     has_it 32 front rest h

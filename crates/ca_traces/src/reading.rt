@@ -24,8 +24,10 @@ pub enum TraceNo {
 
 impl From<NoMemory> for TraceNo {
     ghost use Rattle.std.specs.Prelude.{◌≡◌};
+    ghost use Rattle.ca_traces.specs.declared.reading.TraceNo.{TraceNo};
+    ghost use Rattle.ca_traces.specs.declared.reading.TraceNo.TheVariants.{NoMemory};
 
-    ghost from_gives = { λ x r. r ≡ TraceNo.NoMemory };
+    ghost from_gives = { λ x r. r ≡ NoMemory };
 
     fn from(_: NoMemory) -> Self {
         TraceNo::NoMemory
@@ -34,8 +36,10 @@ impl From<NoMemory> for TraceNo {
 
 impl<T: Drop> From<AllocFailed<T>> for TraceNo {
     ghost use Rattle.std.specs.Prelude.{◌≡◌};
+    ghost use Rattle.ca_traces.specs.declared.reading.TraceNo.{TraceNo};
+    ghost use Rattle.ca_traces.specs.declared.reading.TraceNo.TheVariants.{NoMemory};
 
-    ghost from_gives = { λ x r. r ≡ TraceNo.NoMemory };
+    ghost from_gives = { λ x r. r ≡ NoMemory };
 
     fn from(_: AllocFailed<T>) -> Self {
         TraceNo::NoMemory
