@@ -33,13 +33,13 @@ some_left h l more (u ∷ us) fit e = (u, us, (All-head (λ b. b < 256) u us fit
 
 pub paired_more : (digits bytes longer rest more : List ℕ) (h l b : ℕ) → Paired digits bytes rest → rest ≡ h ∷ l ∷ more → (b < 256) × (hex_digits (b ∷ []) ≡ h ∷ l ∷ []) → longer ≡ bytes ++ b ∷ [] → Paired digits longer more
 paired_more digits bytes longer rest more h l b so is byte e = rw e (record {
-    spelled = ap (λ t. t ++ more) (digits_append bytes (b ∷ []) ∙ ap (λ t. hex_digits bytes ++ t) byte.1) ∙ (append_assoc (hex_digits bytes) (h ∷ l ∷ []) more ∙ (ap (λ t. hex_digits bytes ++ t) (sym is) ∙ so.spelled));
-    small = All-push (λ b. b < 256) bytes b so.small byte.0;
-    left = λ ts fit whole.
+  spelled = ap (λ t. t ++ more) (digits_append bytes (b ∷ []) ∙ ap (λ t. hex_digits bytes ++ t) byte.1) ∙ (append_assoc (hex_digits bytes) (h ∷ l ∷ []) more ∙ (ap (λ t. hex_digits bytes ++ t) (sym is) ∙ so.spelled));
+  small = All-push (λ b. b < 256) bytes b so.small byte.0;
+  left = λ ts fit whole.
       let t = so.left ts fit whole in
       let u = some_left h l more t.0 t.1.0 (t.1.1 ∙ is) in
       (u.1, u.3);
-  })
+})
 
 pub no_byte : (digits bytes rest more : List ℕ) (h l : ℕ) → Paired digits bytes rest → rest ≡ h ∷ l ∷ more → ((b : ℕ) → (b < 256) × (hex_digits (b ∷ []) ≡ h ∷ l ∷ []) → ⊥) → (ts : List ℕ) → AreBytes ts × (hex_digits ts ≡ digits) → ⊥
 no_byte digits bytes rest more h l so is none ts whole =

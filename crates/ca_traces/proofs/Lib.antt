@@ -4,3 +4,5 @@ pub mod Parts
 pub mod Bytes
 pub mod Things
 pub mod Lines
+pub mod Once
+pub mod OneReading

@@ -46,7 +46,7 @@ freed_fits (v.Addr a) is = is
 
 -- lists
 
-high_glyph : (d : ℕ) → 48 ≤ digit_glyph false d
+pub high_glyph : (d : ℕ) → 48 ≤ digit_glyph false d
 high_glyph d = grind (arith, nat_tests)
 
 lacks_hex : (c : ℕ) (bs : List ℕ) → c < 45 → lacks c (hex_digits bs) ≡ true
@@ -55,7 +55,7 @@ lacks_hex c (b ∷ bs) low =
     let front = high_glyph (b / 16) in
     let back = high_glyph (b % 16) in
     lacks_more c (digit_glyph false (b / 16)) (digit_glyph false (b % 16) ∷ hex_digits bs) (λ same. absurd (omega arith))
-      (lacks_more c (digit_glyph false (b % 16)) (hex_digits bs) (λ same. absurd (omega arith)) (lacks_hex c bs low))
+    (lacks_more c (digit_glyph false (b % 16)) (hex_digits bs) (λ same. absurd (omega arith)) (lacks_hex c bs low))
 
 lacks_output : (c : ℕ) (bs : List ℕ) → c < 45 → lacks c (hex_text bs) ≡ true
 lacks_output c [] low = lacks_more c 45 [] (λ same. absurd (omega arith)) refl
@@ -108,7 +108,7 @@ words_of e = decimal e.thread ++ 32 ∷ act_text e.act
 pub line_of : (e : Event) → event_line e ≡ words_of e ++ line_end
 line_of e = sym (append_assoc (decimal e.thread) (32 ∷ act_text e.act) line_end)
 
-lacks_words : (e : Event) → IsWritable e → lacks 10 (words_of e) ≡ true
+pub lacks_words : (e : Event) → IsWritable e → lacks 10 (words_of e) ≡ true
 lacks_words e fits = lacks_pair (decimal e.thread) (act_text e.act) (lacks_number e.thread fits.0) (lacks_act e.act fits.1)
 
 pub line_then : (e : Event) (more : List ℕ) → event_line e ++ more ≡ words_of e ++ 10 ∷ more
@@ -135,13 +135,13 @@ no_line e text line rest more cut none fits is = none e (fits, (first_line e tex
 
 -- the first line of all
 
-count_then : (n : ℕ) (rest : List ℕ) → count_line n ++ rest ≡ (codes "trace " ++ decimal n) ++ 10 ∷ rest
+pub count_then : (n : ℕ) (rest : List ℕ) → count_line n ++ rest ≡ (codes "trace " ++ decimal n) ++ 10 ∷ rest
 count_then n rest = ap (λ t. codes "trace " ++ t) (append_assoc (decimal n) line_end rest)
 
 pub few_fit : (n : ℕ) → n ≤ most_entries → n < 2 ^ 32
 few_fit n few = omega (arith, few)
 
-lacks_count : (n : ℕ) → n ≤ most_entries → lacks 10 (codes "trace " ++ decimal n) ≡ true
+pub lacks_count : (n : ℕ) → n ≤ most_entries → lacks 10 (codes "trace " ++ decimal n) ≡ true
 lacks_count n few = lacks_number n (omega (arith, few))
 
 pub count_parts : (n : ℕ) (text line rest front digits more : List ℕ) → n ≤ most_entries → text ≡ count_line n ++ more → IsCut 10 text line rest → line ≡ front ++ digits → front ≡ codes "trace " → (decimal n ≡ digits) × (more ≡ rest)
@@ -171,20 +171,20 @@ begins_none text count events rest few is none = rw none (record { spelled = is;
 
 pub begins_more : (text : List ℕ) (count : ℕ) (events longer : List Event) (e : Event) (rest more : List ℕ) → Begins text count events rest → length events < count → IsWritable e × (rest ≡ event_line e ++ more) → longer ≡ events ++ e ∷ [] → Begins text count longer more
 begins_more text count events longer e rest more so room entry is = record {
-    spelled = so.spelled ∙ ap (λ t. count_line count ++ t) (ap (λ t. text_of (map event_line events) ++ t) entry.1 ∙ sym (one_more events longer e more is));
-    few = so.few;
-    within = omega (arith, room, ap length is, length-append events (e ∷ []));
-    writable = rw is (All-push IsWritable events e so.writable entry.0);
-  }
+  spelled = so.spelled ∙ ap (λ t. count_line count ++ t) (ap (λ t. text_of (map event_line events) ++ t) entry.1 ∙ sym (one_more events longer e more is));
+  few = so.few;
+  within = omega (arith, room, ap length is, length-append events (e ∷ []));
+  writable = rw is (All-push IsWritable events e so.writable entry.0);
+}
 
 pub whole_trace : (text : List ℕ) (count : ℕ) (events : List Event) (rest : List ℕ) → Begins text count events rest → length events ≡ count → MayFollow rest → IsReading text events
 whole_trace text count events rest so all ends = record {
-    behind = rest;
-    spelled = so.spelled ∙ (ap (λ n. count_line n ++ (text_of (map event_line events) ++ rest)) (sym all) ∙ sym (append_assoc (count_line (length events)) (text_of (map event_line events)) rest));
-    ends = ends;
-    writable = so.writable;
-    few = omega (arith, so.few, all);
-  }
+  behind = rest;
+  spelled = so.spelled ∙ (ap (λ n. count_line n ++ (text_of (map event_line events) ++ rest)) (sym all) ∙ sym (append_assoc (count_line (length events)) (text_of (map event_line events)) rest));
+  ends = ends;
+  writable = so.writable;
+  few = omega (arith, so.few, all);
+}
 
 -- the faults
 

@@ -123,6 +123,6 @@ first_word (act.Retry site gives) word rest free e = inr (inr (one_cut 32 (codes
 
 pub no_first : (a : EventAct) (words word rest : List ℕ) → IsCut 32 words word rest → ((v : Verb) → verb_text v ≡ word → ⊥) → (codes "print" ≡ word → ⊥) → (codes "retry" ≡ word → ⊥) → ActFits a × (act_text a ≡ words) → ⊥
 no_first a words word rest cut none print retry is = elim (first_word a word rest cut.0 (is.1 ∙ cut.1)) [
-    | inl v ↦ none v.0 v.1
-    | inr other ↦ elim other [ inl p ↦ print p | inr r ↦ retry r ]
-  ]
+  | inl v ↦ none v.0 v.1
+  | inr other ↦ elim other [ inl p ↦ print p | inr r ↦ retry r ]
+]

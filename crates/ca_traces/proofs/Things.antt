@@ -83,13 +83,13 @@ some_left word more (u ∷ us) free fit e =
 
 pub listing_more : (words : List ℕ) (gs longer : List Given) (rest word more : List ℕ) (g : Given) → Listing words gs rest → IsCut 32 rest word more → GivenFits g × (given_text g ≡ word) → longer ≡ gs ++ g ∷ [] → Listing words longer more
 listing_more words gs longer rest word more g so cut thing e = rw e (record {
-    spelled = spelled_more gs g (32 ∷ more) ∙ (ap (λ t. gives_text gs ++ 32 ∷ t) (ap (λ t. t ++ 32 ∷ more) thing.1 ∙ sym cut.1) ∙ so.spelled);
-    fit = All-push GivenFits gs g so.fit thing.0;
-    left = λ ts fit whole.
+  spelled = spelled_more gs g (32 ∷ more) ∙ (ap (λ t. gives_text gs ++ 32 ∷ t) (ap (λ t. t ++ 32 ∷ more) thing.1 ∙ sym cut.1) ∙ so.spelled);
+  fit = All-push GivenFits gs g so.fit thing.0;
+  left = λ ts fit whole.
       let t = so.left ts fit whole in
       let u = some_left word more t.0 cut.0 t.1.0 (t.1.1 ∙ ap (λ t. 32 ∷ t) cut.1) in
       (u.1, u.3);
-  })
+})
 
 pub no_thing : (words : List ℕ) (gs : List Given) (rest word more : List ℕ) → Listing words gs rest → IsCut 32 rest word more → ((g : Given) → GivenFits g × (given_text g ≡ word) → ⊥) → (ts : List Given) → All GivenFits ts × (gives_text ts ≡ 32 ∷ words) → ⊥
 no_thing words gs rest word more so cut none ts whole =
@@ -108,9 +108,10 @@ no_last words gs rest so free none ts whole =
     none u.0 u.1
 
 pub listing_all : (words : List ℕ) (gs longer : List Given) (rest : List ℕ) (g : Given) → Listing words gs rest → GivenFits g × (given_text g ≡ rest) → longer ≡ gs ++ g ∷ [] → All GivenFits longer × (gives_text longer ≡ 32 ∷ words)
-listing_all words gs longer rest g so thing e = rw e
-    (All-push GivenFits gs g so.fit thing.0,
-     sym (append-nil (gives_text (gs ++ g ∷ []))) ∙ (spelled_more gs g [] ∙ (ap (λ t. gives_text gs ++ 32 ∷ t) (append-nil (given_text g) ∙ thing.1) ∙ so.spelled)))
+listing_all words gs longer rest g so thing e = rw e (
+  All-push GivenFits gs g so.fit thing.0,
+  sym (append-nil (gives_text (gs ++ g ∷ []))) ∙ (spelled_more gs g [] ∙ (ap (λ t. gives_text gs ++ 32 ∷ t) (append-nil (given_text g) ∙ thing.1) ∙ so.spelled)),
+)
 
 -- a retry
 
@@ -125,7 +126,7 @@ retry_parts : (a : EventAct) (words : List ℕ) → ActFits a → act_text a ≡
 retry_parts (act.Retry site gives) words fits e = record { site = site.0; gives = gives; small = fits.0; fit = fits.1; spelled = cc }
 retry_parts _ words fits e = absurd (false≢true (ap (begins (codes "retry ")) e))
 
-lacks_site : (n : ℕ) → n < 2 ^ 32 → lacks 32 (115 ∷ decimal n) ≡ true
+pub lacks_site : (n : ℕ) → n < 2 ^ 32 → lacks 32 (115 ∷ decimal n) ≡ true
 lacks_site n small = lacks_decimal 32 n (inl (omega arith)) (wide n small)
 
 pub retry_alone : (a : EventAct) (words : List ℕ) → lacks 32 words ≡ true → ((n : ℕ) → (n < 2 ^ 32) × (115 ∷ decimal n ≡ words) → ⊥) → ActFits a × (act_text a ≡ codes "retry " ++ words) → ⊥

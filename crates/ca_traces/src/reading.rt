@@ -1,11 +1,11 @@
 //! A text as a trace.
 
-ghost use Rattle.std.specs.Prelude.{◌≡◌, ℕ, ◌≤◌, ◌++◌, List, MatchOption, IfOk, IsTrue, ◌↔◌, codes};
+ghost use Rattle.std.specs.Prelude.{◌≡◌, ◌⊎◌, ℕ, ◌≤◌, ◌++◌, List, MatchOption, IfOk, IsTrue, ◌↔◌, codes};
 ghost use Rattle.ca_model.specs.declared.values.Event.{Event};
 ghost use Rattle.ca_model.specs.Traces.{event_line, line_end};
 ghost use Rattle.ca_traces.specs.Finding.{Finds};
 ghost use Rattle.ca_traces.specs.Writable.{IsWritable};
-ghost use Rattle.ca_traces.specs.Readings.{MayFollow, count_line, most_entries, IsAnswer};
+ghost use Rattle.ca_traces.specs.Readings.{MayFollow, count_line, most_entries, IsReading, LacksReading, IsAnswer};
 
 use crate::acts::act;
 use crate::numbers::{cut, unsigned};
@@ -99,13 +99,8 @@ fn may_follow(rest: &[u8]) -> bool
     rest.is_empty() || rest.starts_with(b"ending ".as_slice())
 }
 
-/// The entries of a trace, from its text, or from a text in which bytes that begin with `ending ` follow. The first line is
-/// `trace <n>` with n at most 2,000,000, each of the next n is the line of an entry that `write_event` of `ca_events`
-/// writes, and each ends with a line feed. It is one pass, and takes memory for the entries that it has read alone.
-///
-/// `Fault` comes for any other text, with the first line that has no reading. What stands behind the last entry counts as
-/// a line.
-pub fn read_trace(alloc: Global, text: &[u8]) -> Result<Events, TraceNo>
+// The answer for a text.
+fn read(alloc: Global, text: &[u8]) -> Result<Events, TraceNo>
     ensures { IsAnswer text.now result }
 {
     let Some((count, mut rest)) = counted(text) else {
@@ -124,4 +119,18 @@ pub fn read_trace(alloc: Global, text: &[u8]) -> Result<Events, TraceNo>
     } else {
         Err(TraceNo::Fault { line: count + 2 })
     }
+}
+
+/// The entries of a trace, from its text, or from a text in which bytes that begin with `ending ` follow. The first line is
+/// `trace <n>` with n at most 2,000,000, each of the next n is the line of an entry that `write_event` of `ca_events`
+/// writes, and each ends with a line feed. It is one pass, and takes memory for the entries that it has read alone.
+///
+/// `Fault` comes for any other text, with the first line that has no reading. What stands behind the last entry counts as
+/// a line.
+pub fn read_trace(alloc: Global, text: &[u8]) -> Result<Events, TraceNo>
+    ensures answer { IsAnswer text.now result }
+    ensures ok { (events : List Event) → IsReading text.now events → (result ≡ Ok events) ⊎ (result ≡ Err TraceNo.NoMemory) }
+    ensures fault { (line : ℕ) → LacksReading text.now line → (result ≡ Err (TraceNo.Fault line)) ⊎ (result ≡ Err TraceNo.NoMemory) }
+{
+    read(alloc, text)
 }
