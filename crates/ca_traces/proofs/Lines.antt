@@ -1,7 +1,5 @@
 -- No line feed stands within a line, so a text has one first line.
-use Rattle.std.proofs.Common.{◌≡◌, ◌<◌, ◌≤◌, ◌+◌, ◌/◌, ◌%◌, ◌^◌, ℕ, ℤ, pos, List, [], ◌∷◌, ◌++◌, length, map, Bool, true, false, not, ◌==◌, cond, nat_lt, All, refl, sym, ap, ◌∙◌, arith, rules, ◌⊎◌, inl, inr, FitsSigned, codes, append_assoc, length-append, subst}
-use Rattle.std.specs.Int.{w32, w64}
-use Rattle.std.specs.List.{flat_map}
+use Rattle.std.proofs.Common.{◌≡◌, ◌<◌, ◌≤◌, ◌+◌, ◌/◌, ◌%◌, ◌^◌, ℕ, List, [], ◌∷◌, ◌++◌, length, map, Bool, true, false, All, refl, sym, ap, ◌∙◌, arith, inl, codes, append_assoc, length-append, subst}
 use Rattle.std.specs.Fmt.{decimal, signed_decimal, digit_glyph}
 use Rattle.std.proofs.lemmas.Bool.{false≢true}
 use Rattle.std.proofs.lemmas.Bool.Decides.{nat_tests}
@@ -9,7 +7,6 @@ use Rattle.std.proofs.lemmas.List.{append_cancel_right, append_cancel_left, appe
 use Rattle.std.proofs.lemmas.List.Elements.{All-push, All-nil, All-tail, All-head}
 use Rattle.std.proofs.lemmas.List.Concat.{flat_map-append}
 use Rattle.std.proofs.lemmas.Fmt.{decimal_injective}
-use Rattle.ca_model.specs.declared.values.Addr.{Addr}
 use Rattle.ca_model.specs.declared.values.Value.{Value}
 use Rattle.ca_model.specs.declared.values.Value.TheVariants as v
 use Rattle.ca_model.specs.declared.values.FaultKind.{FaultKind}
@@ -18,16 +15,15 @@ use Rattle.ca_model.specs.declared.values.Given.{Given}
 use Rattle.ca_model.specs.declared.values.Event.{Event}
 use Rattle.ca_model.specs.declared.values.EventAct.{EventAct}
 use Rattle.ca_model.specs.declared.values.EventAct.TheVariants as act
-use Rattle.ca_model.specs.Traces.{line_end, address_text, value_text, hex_digits, hex_text, fault_text, given_text, gives_text, act_text, event_line, trace_lines}
+use Rattle.ca_model.specs.Traces.{line_end, address_text, value_text, hex_digits, hex_text, fault_text, given_text, gives_text, act_text, event_line}
 use Rattle.ca_traces.specs.Finding.{lacks, IsCut}
-use Rattle.ca_traces.specs.Writable.{AddressFits, ValueFits, IsBlockStart, MayBeFreed, GivenFits, ActFits, IsWritable}
+use Rattle.ca_traces.specs.Writable.{ValueFits, IsBlockStart, MayBeFreed, GivenFits, ActFits, IsWritable}
 use Rattle.ca_traces.specs.Readings.{text_of, most_entries, count_line, MayFollow, IsReading, Begins, LacksReading}
 use Rattle.ca_traces.specs.Readings.LacksReading.{no_entry, no_end}
 use Rattle.std.specs.Prelude.{IsTrue, ◌↔◌}
-use Rattle.ca_traces.proofs.Cutting.{one_cut, has_it, lacks_more, lacks_append, lacks_decimal, lacks_signed}
+use Rattle.ca_traces.proofs.Cutting.{one_cut, lacks_more, lacks_append, lacks_decimal, lacks_signed}
 use Rattle.ca_traces.proofs.Numerals.{wide, short, long, zero_fits}
 use Rattle.ca_traces.proofs.Parts.{lacks_address, in_front}
-use Rattle.ca_traces.proofs.Bytes.{AreBytes}
 use Rattle.ca_traces.proofs.Things.{lacks_given}
 
 -- values

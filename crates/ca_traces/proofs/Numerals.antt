@@ -1,5 +1,5 @@
 -- A number, an address and a value have one text, and what their readers find.
-use Rattle.std.proofs.Common.{◌≡◌, ◌<◌, ◌^◌, ℕ, ℤ, pos, negsuc, List, [], ◌∷◌, ◌++◌, Bool, true, false, Result, Ok, Err, Option, None, refl, sym, ap, ◌∙◌, arith, rules, ◌⊎◌, inl, inr, FitsSigned}
+use Rattle.std.proofs.Common.{◌≡◌, ◌<◌, ◌^◌, ℕ, ℤ, pos, List, [], ◌∷◌, ◌++◌, Bool, true, false, Result, Ok, Option, None, refl, sym, ap, ◌∙◌, arith, rules, inl, inr, FitsSigned}
 use Rattle.std.specs.Int.{w32, w64}
 use Rattle.std.specs.Int.Signed.{mag}
 use Rattle.std.specs.Fmt.{decimal, signed_decimal}

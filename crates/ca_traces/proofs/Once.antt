@@ -1,5 +1,5 @@
 -- An entry has one text, and no other entry has it.
-use Rattle.std.proofs.Common.{◌≡◌, ◌<◌, ◌≤◌, ◌+◌, ◌*◌, ◌/◌, ◌%◌, ◌^◌, ℕ, ℤ, List, [], ◌∷◌, ◌++◌, true, false, All, refl, sym, ap, ◌∙◌, arith, inl, codes}
+use Rattle.std.proofs.Common.{◌≡◌, ◌<◌, ◌/◌, ◌%◌, ◌^◌, ℕ, ℤ, List, [], ◌∷◌, ◌++◌, true, false, All, refl, sym, ap, ◌∙◌, arith, inl, codes}
 use Rattle.std.specs.Fmt.{decimal, signed_decimal, digit_glyph}
 use Rattle.std.proofs.lemmas.Bool.{false≢true}
 use Rattle.std.proofs.lemmas.Bool.Decides.{nat_tests}
@@ -25,7 +25,7 @@ use Rattle.ca_traces.proofs.Cutting.{begins, one_cut, lacks_decimal, lacks_signe
 use Rattle.ca_traces.proofs.Numerals.{wide, long, address_once, value_once}
 use Rattle.ca_traces.proofs.Parts.{lacks_address}
 use Rattle.ca_traces.proofs.Things.{front_cut, front_whole, lacks_given, lacks_site}
-use Rattle.ca_traces.proofs.Lines.{high_glyph, start_fits, freed_fits, lacks_words, line_then, words_of}
+use Rattle.ca_traces.proofs.Lines.{start_fits, freed_fits, lacks_words, line_then, words_of}
 
 -- numbers and what they name
 

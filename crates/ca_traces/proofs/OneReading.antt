@@ -1,19 +1,19 @@
 -- A text has one answer, but for want of memory.
-use Rattle.std.proofs.Common.{◌≡◌, ◌<◌, ◌≤◌, ◌+◌, ℕ, List, [], ◌∷◌, ◌++◌, length, map, All, refl, sym, ap, ◌∙◌, arith, ◌⊎◌, inl, inr, codes, append_assoc, length-append, subst, Result, Ok, Err}
+use Rattle.std.proofs.Common.{◌≡◌, ◌<◌, ◌≤◌, ℕ, List, [], ◌∷◌, ◌++◌, length, map, All, refl, sym, ap, ◌∙◌, arith, ◌⊎◌, inl, inr, codes, append_assoc, length-append, subst, Result, Ok, Err}
 use Rattle.std.specs.Fmt.{decimal}
 use Rattle.std.proofs.lemmas.List.{append-nil, append_cancel_left}
 use Rattle.std.proofs.lemmas.List.Elements.{All-tail, All-head}
 use Rattle.std.proofs.lemmas.Bool.{cases_lt}
 use Rattle.std.proofs.lemmas.Fmt.{decimal_injective}
 use Rattle.ca_model.specs.declared.values.Event.{Event}
-use Rattle.ca_model.specs.Traces.{line_end, event_line, trace_lines}
+use Rattle.ca_model.specs.Traces.{event_line, trace_lines}
 use Rattle.ca_traces.specs.declared.reading.TraceNo.{TraceNo}
 use Rattle.ca_traces.specs.declared.reading.TraceNo.TheVariants as no
 use Rattle.ca_traces.specs.Writable.{IsWritable}
 use Rattle.ca_traces.specs.Readings.{text_of, most_entries, count_line, MayFollow, IsReading, Begins, LacksReading, IsAnswer}
 use Rattle.ca_traces.specs.Readings.LacksReading.{no_count, no_entry, no_end}
 use Rattle.ca_traces.proofs.Cutting.{one_cut}
-use Rattle.ca_traces.proofs.Lines.{few_fit, count_then, lacks_count}
+use Rattle.ca_traces.proofs.Lines.{count_then, lacks_count}
 use Rattle.ca_traces.proofs.Once.{entry_once}
 
 -- the number in the first line

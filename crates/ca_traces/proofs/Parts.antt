@@ -1,18 +1,17 @@
 -- What the words of an act are made of.
-use Rattle.std.proofs.Common.{◌≡◌, ◌<◌, ◌^◌, ℕ, ℤ, pos, List, [], ◌∷◌, ◌++◌, Bool, true, false, All, refl, sym, ap, ◌∙◌, arith, ◌⊎◌, inl, inr, FitsSigned, codes}
-use Rattle.std.specs.Int.{w32, w64}
+use Rattle.std.proofs.Common.{◌≡◌, ◌<◌, ℕ, ℤ, List, ◌∷◌, ◌++◌, true, refl, ap, ◌∙◌, arith, ◌⊎◌, inl, inr, FitsSigned, codes}
+use Rattle.std.specs.Int.{w64}
 use Rattle.std.specs.Fmt.{decimal, signed_decimal}
 use Rattle.std.proofs.lemmas.Bool.{false≢true}
 use Rattle.ca_model.specs.declared.values.Addr.{Addr}
 use Rattle.ca_model.specs.declared.values.Value.{Value}
-use Rattle.ca_model.specs.declared.values.Value.TheVariants as v
 use Rattle.ca_model.specs.declared.values.EventAct.{EventAct}
 use Rattle.ca_model.specs.declared.values.EventAct.TheVariants as act
 use Rattle.ca_model.specs.Traces.{address_text, value_text, hex_text, gives_text, fault_text, act_text}
 use Rattle.ca_traces.specs.declared.acts.Verb.{Verb}
 use Rattle.ca_traces.specs.declared.acts.Verb.TheVariants as verb
 use Rattle.ca_traces.specs.Finding.{lacks, IsCut}
-use Rattle.ca_traces.specs.Writable.{AddressFits, ValueFits, IsBlockStart, ActFits, GivenFits}
+use Rattle.ca_traces.specs.Writable.{AddressFits, ValueFits, IsBlockStart, ActFits}
 use Rattle.ca_traces.specs.Verbs.{verb_text, is_bare}
 use Rattle.ca_traces.proofs.Cutting.{begins, one_cut, has_it, lacks_more, lacks_append, lacks_decimal, lacks_signed}
 use Rattle.ca_traces.proofs.Numerals.{wide, short, long}

@@ -1,5 +1,5 @@
 -- What a retry gives back, as words.
-use Rattle.std.proofs.Common.{◌≡◌, ◌<◌, ◌^◌, ℕ, List, [], ◌∷◌, ◌++◌, length, Bool, true, false, All, refl, sym, ap, ◌∙◌, arith, rules, codes, append_assoc, inl}
+use Rattle.std.proofs.Common.{◌≡◌, ◌<◌, ◌^◌, ℕ, List, [], ◌∷◌, ◌++◌, true, All, refl, sym, ap, ◌∙◌, arith, codes, append_assoc, inl}
 use Rattle.std.specs.Fmt.{decimal}
 use Rattle.std.proofs.lemmas.List.{append-nil}
 use Rattle.std.proofs.lemmas.List.Elements.{All-nil, All-push, All-tail, All-head}

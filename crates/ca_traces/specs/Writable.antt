@@ -1,6 +1,6 @@
 -- Which entries can be written: each number is within its range, a `malloc` gives null or the start of a block, and a
 -- `free` takes null or an address.
-use Rattle.std.specs.Prelude.{◌≡◌, ℕ, ◌<◌, ◌^◌, pos, List, All, FitsSigned}
+use Rattle.std.specs.Prelude.{◌≡◌, ◌<◌, ◌^◌, pos, All, FitsSigned}
 use Rattle.std.specs.Int.{w32, w64}
 use Rattle.ca_model.specs.declared.values.Addr.{Addr}
 use Rattle.ca_model.specs.declared.values.Value.{Value}

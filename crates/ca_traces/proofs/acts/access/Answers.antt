@@ -1,4 +1,3 @@
-use Rattle.std.proofs.Common.{◌≡◌}
 use Rattle.ca_traces.proofs.Numerals.{nothing}
 use Rattle.ca_traces.proofs.Parts.{access_parts}
 use Rattle.ca_traces.proofs.acts.access.Goals as goal

@@ -1,4 +1,3 @@
-use Rattle.std.proofs.Common.{◌≡◌}
 use Rattle.ca_traces.proofs.Numerals.{no_word}
 use Rattle.ca_traces.proofs.Parts.{no_first}
 use Rattle.ca_traces.proofs.acts.act.Goals as goal

@@ -1,4 +1,4 @@
-use Rattle.std.proofs.Common.{◌≡◌, ◌∷◌, ◌++◌, ap, ◌∙◌}
+use Rattle.std.proofs.Common.{◌∷◌, ◌++◌, ap, ◌∙◌}
 use Rattle.ca_traces.proofs.Numerals.{nothing}
 use Rattle.ca_traces.proofs.Parts.{a_read, a_write}
 use Rattle.ca_traces.specs.declared.acts.Verb.{Verb}

@@ -1,4 +1,3 @@
-use Rattle.std.proofs.Common.{◌≡◌}
 use Rattle.ca_traces.proofs.Numerals.{nothing, no_word}
 use Rattle.ca_traces.proofs.Things.{no_block, no_start}
 use Rattle.ca_traces.proofs.lists.given.Goals as goal

@@ -1,4 +1,3 @@
-use Rattle.std.proofs.Common.{◌≡◌}
 use Rattle.ca_traces.proofs.Things.{listing_more, listing_all, no_thing, no_last}
 use Rattle.ca_traces.proofs.lists.gives.Goals as goal
 

@@ -1,4 +1,4 @@
-use Rattle.std.proofs.Common.{◌≡◌, length}
+use Rattle.std.proofs.Common.{length}
 use Rattle.ca_traces.proofs.Bytes.{next_pair, no_pair, one_left, not_empty}
 use Rattle.ca_traces.proofs.lists.hex_bytes.Goals as goal
 

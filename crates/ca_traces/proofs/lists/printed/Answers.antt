@@ -1,4 +1,3 @@
-use Rattle.std.proofs.Common.{◌≡◌}
 use Rattle.ca_traces.proofs.Numerals.{no_word}
 use Rattle.ca_traces.proofs.Bytes.{no_output}
 use Rattle.ca_traces.proofs.lists.printed.Goals as goal

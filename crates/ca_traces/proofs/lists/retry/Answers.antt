@@ -1,4 +1,3 @@
-use Rattle.std.proofs.Common.{◌≡◌}
 use Rattle.ca_traces.proofs.Things.{retry_alone, no_site, no_things}
 use Rattle.ca_traces.proofs.lists.retry.Goals as goal
 

@@ -1,4 +1,3 @@
-use Rattle.std.proofs.Common.{◌≡◌}
 use Rattle.ca_traces.proofs.Numerals.{nothing, address_parts}
 use Rattle.ca_traces.proofs.numbers.address.Goals as goal
 

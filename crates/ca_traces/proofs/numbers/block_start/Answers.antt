@@ -1,4 +1,4 @@
-use Rattle.std.proofs.Common.{◌≡◌, ◌∙◌, ℤ, refl, sym, ap}
+use Rattle.std.proofs.Common.{◌∙◌, ℤ, refl, sym, ap}
 use Rattle.std.specs.Int.{w32}
 use mir.Val.{of_z}
 use Rattle.ca_traces.proofs.Numerals.{nothing, no_start, inside, zero_text, is_word, no_word}

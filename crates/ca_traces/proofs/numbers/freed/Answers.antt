@@ -1,4 +1,4 @@
-use Rattle.std.proofs.Common.{◌≡◌, ◌∙◌, refl, sym}
+use Rattle.std.proofs.Common.{◌∙◌, refl, sym}
 use Rattle.ca_traces.proofs.Numerals.{no_freed, zero_text, is_word, no_word}
 use Rattle.ca_traces.proofs.numbers.freed.Goals as goal
 

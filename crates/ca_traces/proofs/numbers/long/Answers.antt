@@ -1,4 +1,4 @@
-use Rattle.std.proofs.Common.{◌≡◌, List, ℤ, Ok, ap, sym, ◌∙◌}
+use Rattle.std.proofs.Common.{◌≡◌, sym, ◌∙◌}
 use Rattle.std.specs.Int.{w64}
 use Rattle.ca_traces.proofs.Numerals.{held, differs, long, utf8_signed, long_read}
 use Rattle.ca_traces.proofs.numbers.long.Goals as goal

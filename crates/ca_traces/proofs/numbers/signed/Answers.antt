@@ -1,4 +1,4 @@
-use Rattle.std.proofs.Common.{◌≡◌, List, ℤ, Ok, ap, sym, ◌∙◌}
+use Rattle.std.proofs.Common.{◌≡◌, sym, ◌∙◌}
 use Rattle.std.specs.Int.{w32}
 use Rattle.ca_traces.proofs.Numerals.{held, differs, short, utf8_signed, short_read}
 use Rattle.ca_traces.proofs.numbers.signed.Goals as goal

@@ -1,4 +1,4 @@
-use Rattle.std.proofs.Common.{◌≡◌, List, ℕ, Ok, ap, sym, ◌∙◌, decimal}
+use Rattle.std.proofs.Common.{◌≡◌, ap, sym, ◌∙◌, decimal}
 use Rattle.ca_traces.proofs.Numerals.{differs, utf8_decimal, unsigned_read}
 use Rattle.ca_traces.proofs.numbers.unsigned.Goals as goal
 

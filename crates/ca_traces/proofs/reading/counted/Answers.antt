@@ -1,7 +1,6 @@
-use Rattle.std.proofs.Common.{◌≡◌, ◌++◌, Some}
+use Rattle.std.proofs.Common.{Some}
 use Rattle.std.proofs.lemmas.Bool.Decides.{Decides-eqb}
 use Rattle.std.proofs.lemmas.Slice.Eq.{strip_prefix_is}
-use Rattle.ca_traces.proofs.Numerals.{nothing}
 use Rattle.ca_traces.proofs.Lines.{few_fit, count_parts, counted_text, too_many}
 use Rattle.ca_traces.proofs.reading.counted.Goals as goal
 

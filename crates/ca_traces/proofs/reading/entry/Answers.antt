@@ -1,4 +1,3 @@
-use Rattle.std.proofs.Common.{◌≡◌}
 use Rattle.ca_traces.proofs.Lines.{no_line}
 use Rattle.ca_traces.proofs.reading.entry.Goals as goal
 

@@ -1,4 +1,3 @@
-use Rattle.std.proofs.Common.{◌≡◌}
 use Rattle.ca_traces.proofs.Lines.{never_alone, entry_parts}
 use Rattle.ca_traces.proofs.reading.event.Goals as goal
 

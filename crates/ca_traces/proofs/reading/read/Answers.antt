@@ -1,4 +1,4 @@
-use Rattle.std.proofs.Common.{◌≡◌, ◌∙◌, ◌+◌, ◌<◌, [], ◌∷◌, ap, length, refl, arith, length-append}
+use Rattle.std.proofs.Common.{◌∙◌, ◌+◌, ◌<◌, [], ◌∷◌, ap, length, refl, arith, length-append}
 use Rattle.ca_traces.specs.Readings.{MayFollow}
 use Rattle.ca_traces.proofs.Lines.{begins_more, lacks_entry, lacks_end, refused}
 use Rattle.ca_traces.proofs.reading.read.Goals as goal
