@@ -1,15 +1,14 @@
 -- A list of entries has one verdict, but for want of memory.
-use Rattle.std.proofs.Common.{◌≡◌, ◌<◌, ◌≤◌, ◌+◌, ℕ, zero, suc, List, [], ◌∷◌, ◌++◌, length, take, Some, None, refl, sym, ap, subst, ◌∙◌, arith, ◌⊎◌, inl, inr, Result, Ok, Err}
+use Rattle.std.proofs.Common.{◌≡◌, ◌<◌, ℕ, zero, suc, List, [], ◌∷◌, length, take, Some, refl, sym, ap, subst, ◌∙◌, arith, ◌⊎◌, inl, inr, Result, Ok, Err}
 use Rattle.std.specs.Prelude.{slice_get}
 use Rattle.std.proofs.lemmas.List.{take_all}
 use Rattle.std.proofs.lemmas.Bool.{cases_lt}
 use Rattle.ca_model.specs.declared.plan.Plan.{Plan}
-use Rattle.ca_model.specs.declared.values.FaultKind.{FaultKind}
 use Rattle.ca_model.specs.declared.values.Event.{Event}
 use Rattle.ca_model.specs.declared.values.Ending.{Ending}
 use Rattle.ca_model.specs.declared.values.Ending.TheVariants as ending
-use Rattle.ca_model.specs.Codes.{Typed, code_of}
-use Rattle.ca_model.specs.Hardened.{Hardened, hardened}
+use Rattle.ca_model.specs.Codes.{Typed}
+use Rattle.ca_model.specs.Hardened.{Hardened}
 use Rattle.ca_model.specs.Shared.{Phase}
 use Rattle.ca_model.specs.Shared.Phase.{Open, Finished, Failed}
 use Rattle.ca_model.specs.Machine.{Rules, State, Run, Step}
@@ -94,12 +93,12 @@ no_run p plan es end i x f = stops p plan es i (length es) x.last f (there es i 
 
 pub one_index : (p : Typed) (plan : Plan) (es : List Event) (i j : ℕ) → IsFirstNoStep p plan es i → IsFirstNoStep p plan es j → i ≡ j
 one_index p plan es i j f g = elim (cases_lt i j) [
-    | inl less ↦ absurd (stops p plan es i j g.before f less g.run)
-    | inr rest ↦ elim (cases_lt j i) [
-        | inl less ↦ absurd (stops p plan es j i f.before g less f.run)
-        | inr back ↦ omega arith
-      ]
+  | inl less ↦ absurd (stops p plan es i j g.before f less g.run)
+  | inr rest ↦ elim (cases_lt j i) [
+    | inl less ↦ absurd (stops p plan es j i f.before g less f.run)
+    | inr back ↦ omega arith
   ]
+]
 
 pub only_ending : (p : Typed) (plan : Plan) (es : List Event) (r : Result Ending CheckNo) (end : Ending) → IsVerdict p plan es r → IsRunTo p plan es end → (r ≡ Ok end) ⊎ (r ≡ Err no.NoMemory)
 only_ending p plan es (Ok other) end is runs = inl (ap Ok (one_ending p plan es other end is runs))

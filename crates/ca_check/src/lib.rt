@@ -4,5 +4,5 @@
 mod checking;
 mod laws;
 
-pub use checking::CheckNo;
+pub use checking::{CheckNo, check};
 pub use laws::a_list_has_one_verdict;
