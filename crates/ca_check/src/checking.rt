@@ -25,6 +25,7 @@ fn follow_all(alloc: Global, machine: &mut Machine, events: &[Event]) -> Result<
     ensures refused { IfErr result (λ no. IsVerdict machine.old.source machine.old.plan events.now (Err no)) }
 {
     'entries: for (index, event) in events.iter().enumerate() {
+        // The entries so far are a run.
         let _reached = machine.shared();
         match machine.follow(alloc, event) {
             Ok(()) => {}
@@ -56,6 +57,7 @@ fn verdict(
     };
     match follow_all(alloc, &mut machine, events) {
         Ok(()) => {
+            // So are all of them.
             let _reached = machine.shared();
             Ok(machine.ending())
         }
