@@ -14,6 +14,7 @@ use std::alloc::Global;
 pub enum CheckNo {
     /// The entry at this index, counted from 0, is the first that is no step after those before it.
     NotARun { index: u32 },
+    /// An allocation was refused. It may come at any list.
     NoMemory,
 }
 

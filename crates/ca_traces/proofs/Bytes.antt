@@ -1,8 +1,8 @@
 -- Bytes as digits to the base 16.
 use Rattle.std.proofs.Common.{◌≡◌, ◌<◌, ◌≤◌, ◌-◌, ◌==◌, ℕ, List, [], ◌∷◌, ◌++◌, length, take, drop, get_or, Bool, false, All, refl, sym, ap, ◌∙◌, arith, codes, append_assoc}
-use Rattle.std.proofs.lemmas.List.{append-nil, take_all}
+use Rattle.std.proofs.lemmas.List.{take_all}
 use Rattle.std.proofs.lemmas.Bool.Decides.{nat_tests}
-use Rattle.std.proofs.lemmas.List.Elements.{All-nil, All-push, All-tail, All-head}
+use Rattle.std.proofs.lemmas.List.Elements.{All-push, All-tail, All-head}
 use Rattle.ca_model.specs.declared.values.EventAct.{EventAct}
 use Rattle.ca_model.specs.declared.values.EventAct.TheVariants as act
 use Rattle.ca_model.specs.Traces.{hex_digits, hex_text, act_text}
@@ -19,9 +19,6 @@ pub record Paired (digits bytes rest : List ℕ) : Type 0 where
   pub spelled : hex_digits bytes ++ rest ≡ digits
   pub small : AreBytes bytes
   pub left : (ts : List ℕ) → AreBytes ts → hex_digits ts ≡ digits → (us : List ℕ) × (AreBytes us × (hex_digits us ≡ rest))
-
-pub paired_none : (digits bytes : List ℕ) → bytes ≡ [] → Paired digits bytes digits
-paired_none digits bytes none = rw none (record { spelled = refl; small = All-nil (λ b. b < 256); left = λ ts fit e. (ts, (fit, e)) })
 
 digits_append : (xs ys : List ℕ) → hex_digits (xs ++ ys) ≡ hex_digits xs ++ hex_digits ys
 digits_append [] ys = refl
@@ -46,10 +43,6 @@ no_byte digits bytes rest more h l so is none ts whole =
     let t = so.left ts whole.0 whole.1 in
     let u = some_left h l more t.0 t.1.0 (t.1.1 ∙ is) in
     none u.0 u.2
-
-pub all_paired : (digits bytes rest : List ℕ) → Paired digits bytes rest → rest ≡ [] → AreBytes bytes × (hex_digits bytes ≡ digits)
-all_paired digits bytes rest so none =
-    (so.small, sym (append-nil (hex_digits bytes)) ∙ (ap (λ t. hex_digits bytes ++ t) (sym none) ∙ so.spelled))
 
 odd : (us rest : List ℕ) → hex_digits us ≡ rest → 0 < length rest → length rest < 2 → ⊥
 odd [] rest e some few = let n = ap length e in absurd (omega arith)
@@ -85,15 +78,6 @@ pub output_parts : (a : EventAct) (word : List ℕ) → ActFits a → act_text a
 output_parts (act.Print text) word fits e = record { text = text; small = fits; spelled = cc }
 output_parts _ word fits e = absurd (false≢true (ap (begins (codes "print ")) e))
 
-never_empty : (text : List ℕ) → hex_text text ≡ [] → ⊥
-never_empty [] e = absurd cc
-never_empty (b ∷ bs) e = absurd cc
-
-pub no_empty_output : (a : EventAct) (word : List ℕ) → word ≡ [] → ActFits a × (act_text a ≡ codes "print " ++ word) → ⊥
-no_empty_output a word none is =
-    let o = output_parts a word is.0 is.1 in
-    never_empty o.text (o.spelled ∙ none)
-
 by_digits : (text word : List ℕ) → hex_text text ≡ word → (codes "-" ≡ word → ⊥) → hex_digits text ≡ word
 by_digits [] word e other = absurd (other e)
 by_digits (b ∷ bs) word e other = e
@@ -102,7 +86,3 @@ pub no_output : (a : EventAct) (word : List ℕ) → (codes "-" ≡ word → ⊥
 no_output a word other none is =
     let o = output_parts a word is.0 is.1 in
     none o.text (o.small, by_digits o.text word o.spelled other)
-
-pub an_output : (bytes word : List ℕ) → (word ≡ [] → ⊥) → hex_digits bytes ≡ word → act_text (act.Print bytes) ≡ codes "print " ++ word
-an_output [] word some e = absurd (some (sym e))
-an_output (b ∷ bs) word some e = ap (λ t. codes "print " ++ t) e

@@ -4,7 +4,7 @@ use Rattle.std.specs.Fmt.{decimal, signed_decimal, digit_glyph}
 use Rattle.std.proofs.lemmas.Bool.{false≢true}
 use Rattle.std.proofs.lemmas.Bool.Decides.{nat_tests}
 use Rattle.std.proofs.lemmas.List.{append_cancel_right, append_cancel_left, append-nil, map-append}
-use Rattle.std.proofs.lemmas.List.Elements.{All-push, All-nil, All-tail, All-head}
+use Rattle.std.proofs.lemmas.List.Elements.{All-push, All-tail, All-head}
 use Rattle.std.proofs.lemmas.List.Concat.{flat_map-append}
 use Rattle.std.proofs.lemmas.Fmt.{decimal_injective}
 use Rattle.ca_model.specs.declared.values.Value.{Value}
@@ -18,7 +18,7 @@ use Rattle.ca_model.specs.declared.values.EventAct.TheVariants as act
 use Rattle.ca_model.specs.Traces.{line_end, address_text, value_text, hex_digits, hex_text, fault_text, given_text, gives_text, act_text, event_line}
 use Rattle.ca_traces.specs.Finding.{lacks, IsCut}
 use Rattle.ca_traces.specs.Writable.{ValueFits, IsBlockStart, MayBeFreed, GivenFits, ActFits, IsWritable}
-use Rattle.ca_traces.specs.Readings.{text_of, most_entries, count_line, MayFollow, IsReading, Begins, LacksReading}
+use Rattle.ca_traces.specs.Readings.{text_of, most_entries, count_line, MayFollow, Begins, LacksReading}
 use Rattle.ca_traces.specs.Readings.LacksReading.{no_entry, no_end}
 use Rattle.std.specs.Prelude.{IsTrue, ◌↔◌}
 use Rattle.ca_traces.proofs.Cutting.{one_cut, lacks_more, lacks_append, lacks_decimal, lacks_signed}
@@ -162,24 +162,12 @@ one_more events longer e rest is =
     ap (λ t. t ++ rest) (ap (λ (es : List Event). text_of (map event_line es)) is ∙ (ap text_of (map-append event_line events (e ∷ [])) ∙ (flat_map-append (λ line. line) (map event_line events) (event_line e ∷ []) ∙ ap (λ t. text_of (map event_line events) ++ t) (append-nil (event_line e)))))
     ∙ append_assoc (text_of (map event_line events)) (event_line e) rest
 
-pub begins_none : (text : List ℕ) (count : ℕ) (events : List Event) (rest : List ℕ) → count ≤ most_entries → text ≡ count_line count ++ rest → events ≡ [] → Begins text count events rest
-begins_none text count events rest few is none = rw none (record { spelled = is; few = few; within = omega arith; writable = All-nil IsWritable })
-
 pub begins_more : (text : List ℕ) (count : ℕ) (events longer : List Event) (e : Event) (rest more : List ℕ) → Begins text count events rest → length events < count → IsWritable e × (rest ≡ event_line e ++ more) → longer ≡ events ++ e ∷ [] → Begins text count longer more
 begins_more text count events longer e rest more so room entry is = record {
   spelled = so.spelled ∙ ap (λ t. count_line count ++ t) (ap (λ t. text_of (map event_line events) ++ t) entry.1 ∙ sym (one_more events longer e more is));
   few = so.few;
   within = omega (arith, room, ap length is, length-append events (e ∷ []));
   writable = rw is (All-push IsWritable events e so.writable entry.0);
-}
-
-pub whole_trace : (text : List ℕ) (count : ℕ) (events : List Event) (rest : List ℕ) → Begins text count events rest → length events ≡ count → MayFollow rest → IsReading text events
-whole_trace text count events rest so all ends = record {
-  behind = rest;
-  spelled = so.spelled ∙ (ap (λ n. count_line n ++ (text_of (map event_line events) ++ rest)) (sym all) ∙ sym (append_assoc (count_line (length events)) (text_of (map event_line events)) rest));
-  ends = ends;
-  writable = so.writable;
-  few = omega (arith, so.few, all);
 }
 
 -- the faults

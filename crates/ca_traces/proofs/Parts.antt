@@ -12,7 +12,7 @@ use Rattle.ca_traces.specs.declared.acts.Verb.{Verb}
 use Rattle.ca_traces.specs.declared.acts.Verb.TheVariants as verb
 use Rattle.ca_traces.specs.Finding.{lacks, IsCut}
 use Rattle.ca_traces.specs.Writable.{AddressFits, ValueFits, IsBlockStart, ActFits}
-use Rattle.ca_traces.specs.Verbs.{verb_text, is_bare}
+use Rattle.ca_traces.specs.Verbs.{verb_text}
 use Rattle.ca_traces.proofs.Cutting.{begins, one_cut, has_it, lacks_more, lacks_append, lacks_decimal, lacks_signed}
 use Rattle.ca_traces.proofs.Numerals.{wide, short, long}
 
@@ -62,35 +62,10 @@ allocation_parts (act.Malloc cells at) words front rest fits e cut =
     record { cells = cells; at = at; count = fits.0; start = fits.1; first = t.0; second = t.1 }
 allocation_parts _ words front rest fits e cut = absurd (false≢true (ap (begins (codes "malloc ")) e))
 
--- an act of one word
-pub bare_fits : (a : EventAct) → is_bare a ≡ true → ActFits a
-bare_fits act.Turn is = tt
-bare_fits act.End is = tt
-bare_fits act.Save is = tt
-bare_fits _ is = absurd cc
-
 pub in_front : (front rest words : List ℕ) → front ++ 32 ∷ rest ≡ words → lacks 32 words ≡ true → ⊥
 in_front front rest words e free =
     let h : lacks 32 (front ++ 32 ∷ rest) ≡ true = rw e free in
     has_it 32 front rest h
-
-pub is_alone : (a : EventAct) (words : List ℕ) → lacks 32 words ≡ true → act_text a ≡ words → is_bare a ≡ true
-is_alone (act.Read at x) words free e = absurd (in_front (codes "read") (address_text at ++ (codes " " ++ value_text x)) words e free)
-is_alone (act.Write at x) words free e = absurd (in_front (codes "write") (address_text at ++ (codes " " ++ value_text x)) words e free)
-is_alone (act.Lock m) words free e = absurd (in_front (codes "lock") (codes "m" ++ decimal m.0) words e free)
-is_alone (act.Unlock m) words free e = absurd (in_front (codes "unlock") (codes "m" ++ decimal m.0) words e free)
-is_alone (act.Malloc cells at) words free e = absurd (in_front (codes "malloc") (signed_decimal cells ++ (codes " " ++ value_text at)) words e free)
-is_alone (act.Free at) words free e = absurd (in_front (codes "free") (value_text at) words e free)
-is_alone (act.Print text) words free e = absurd (in_front (codes "print") (hex_text text) words e free)
-is_alone (act.Create u) words free e = absurd (in_front (codes "create") (decimal u) words e free)
-is_alone (act.Join u) words free e = absurd (in_front (codes "join") (decimal u) words e free)
-is_alone (act.Call f) words free e = absurd (in_front (codes "call") (codes "f" ++ decimal f.0) words e free)
-is_alone (act.Return x) words free e = absurd (in_front (codes "return") (value_text x) words e free)
-is_alone act.Turn words free e = refl
-is_alone act.End words free e = refl
-is_alone (act.Fault k) words free e = absurd (in_front (codes "fault") (fault_text k) words e free)
-is_alone act.Save words free e = refl
-is_alone (act.Retry site gives) words free e = absurd (in_front (codes "retry") (codes "s" ++ (decimal site.0 ++ gives_text gives)) words e free)
 
 -- the first word of an act with words behind it
 abbrev pub FirstWord : List ℕ → Type 0

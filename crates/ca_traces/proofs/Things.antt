@@ -2,7 +2,7 @@
 use Rattle.std.proofs.Common.{◌≡◌, ◌<◌, ◌^◌, ℕ, List, [], ◌∷◌, ◌++◌, true, All, refl, sym, ap, ◌∙◌, arith, codes, append_assoc, inl}
 use Rattle.std.specs.Fmt.{decimal}
 use Rattle.std.proofs.lemmas.List.{append-nil}
-use Rattle.std.proofs.lemmas.List.Elements.{All-nil, All-push, All-tail, All-head}
+use Rattle.std.proofs.lemmas.List.Elements.{All-push, All-tail, All-head}
 use Rattle.std.proofs.lemmas.Bool.{false≢true}
 use Rattle.ca_model.specs.declared.values.Given.{Given}
 use Rattle.ca_model.specs.declared.values.Given.TheVariants as given
@@ -59,9 +59,6 @@ pub record Listing (words : List ℕ) (gs : List Given) (rest : List ℕ) : Type
   pub spelled : gives_text gs ++ 32 ∷ rest ≡ 32 ∷ words
   pub fit : All GivenFits gs
   pub left : (ts : List Given) → All GivenFits ts → gives_text ts ≡ 32 ∷ words → (us : List Given) × (All GivenFits us × (gives_text us ≡ 32 ∷ rest))
-
-pub listing_none : (words : List ℕ) (gs : List Given) → gs ≡ [] → Listing words gs words
-listing_none words gs none = rw none (record { spelled = refl; fit = All-nil GivenFits; left = λ ts fit e. (ts, (fit, e)) })
 
 gives_append : (xs ys : List Given) → gives_text (xs ++ ys) ≡ gives_text xs ++ gives_text ys
 gives_append [] ys = refl

@@ -19,6 +19,7 @@ pub enum TraceNo {
     /// This line, counted from 1, is the first that has no reading. Where the text ends before a line that it has to have,
     /// it is that line.
     Fault { line: u32 },
+    /// An allocation was refused. It may come at any text.
     NoMemory,
 }
 
