@@ -1,0 +1,4 @@
+pub mod Finding
+pub mod Writable
+pub mod Verbs
+pub mod Readings
