@@ -1,0 +1,4 @@
+pub mod Behind
+pub mod Filling
+pub mod WantsOfKinds
+pub mod ReadGraphs
