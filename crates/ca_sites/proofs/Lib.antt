@@ -1,0 +1,4 @@
+pub mod NotedItems
+pub mod ListedSites
+pub mod TextStatements
+pub mod NotedExpressions
