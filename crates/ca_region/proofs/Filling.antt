@@ -1,5 +1,5 @@
 -- Tables that are filled link by link.
-use Rattle.std.proofs.Common.{◌≡◌, ◌<◌, ◌≤◌, ◌+◌, ◌-◌, ℕ, zero, suc, Bool, true, false, List, [], ◌∷◌, ◌++◌, length, take, get_or, replicate, refl, sym, ap, ◌∙◌, subst, inl, inr, arith}
+use Rattle.std.proofs.Common.{◌≡◌, ◌<◌, ◌≤◌, ◌+◌, ◌-◌, ℕ, zero, suc, Bool, true, false, not, List, [], ◌∷◌, ◌++◌, length, take, get_or, replicate, refl, sym, ap, ◌∙◌, subst, inl, inr, arith}
 use Rattle.std.specs.Global.{Vec}
 use Rattle.std.specs.Prelude.{Contains, ◌⊎◌, ◌↔◌}
 use Rattle.std.proofs.lemmas.List.Elements.{Contains-append_left, Contains-append_right, Contains-append_cases}
@@ -141,3 +141,12 @@ module _ (lowest count : ℕ) (links seen : List Link) (k : ℕ) (same : seen �
     turn_passes v u no' long marked is =
         subst (λ (w : Vec Bool). (length w.items ≡ count) × IsMarked lowest count At (take (k + 1) links) w.items) (sym is)
         (long, subst (λ ls. IsMarked lowest count At ls v.items) (sym one_taken) (marked_same lowest count At (take k links) the_link v.items no' marked))
+
+-- whether an item is gone over
+pub passed : (b : Bool) → not b ≡ true → b ≡ false
+passed true h = absurd cc
+passed false h = refl
+
+pub stopped : (b : Bool) → not b ≡ false → b ≡ true
+stopped true h = refl
+stopped false h = absurd cc

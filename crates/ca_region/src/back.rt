@@ -1,6 +1,6 @@
 //! The search back along the links of a function.
 
-ghost use Rattle.std.specs.Prelude.{◌≡◌, ◌<◌, ◌≤◌, ◌+◌, ◌-◌, ◌↔◌, ℕ, true, length, map, Contains, IfOk, IsTrue};
+ghost use Rattle.std.specs.Prelude.{◌≡◌, ◌<◌, ◌≤◌, ◌+◌, ◌-◌, ◌↔◌, ℕ, true, not, length, map, Contains, IfOk, IsTrue};
 ghost use Rattle.std.specs.List.Sorted.{IsStrictlyIncreasing};
 ghost use Rattle.ca_tree.specs.declared.numbers.ItemId.{ItemId as AnItem};
 ghost use Rattle.ca_reach.specs.Reach.{IsSet, row, rows_of};
@@ -18,6 +18,13 @@ use ca_reach::{add, empty_rows, items_at, put, reached, row};
 use ca_tree::{ItemId, Listed, NoMemory};
 use std::alloc::Global;
 
+// Whether a path goes back over a link: its first item doesn't destroy.
+fn is_passed(link: &Link) -> bool
+    ensures { result ≡ not link.now.destroys }
+{
+    !link.destroys
+}
+
 // The rows of the links back over items that don't destroy, numbered from the lowest item on.
 fn back_rows(
     alloc: Global,
@@ -30,7 +37,7 @@ fn back_rows(
 {
     let mut rows = empty_rows(alloc, count)?;
     'links: for link in links {
-        if !link.destroys {
+        if is_passed(link) {
             add(
                 &mut rows,
                 link.to.0.saturating_sub(lowest),
