@@ -2,8 +2,10 @@
 #![tactic(auto)]
 
 mod back;
+mod in_code;
 mod kinds;
 
 pub use back::region;
 pub use ca_flow::Region;
+pub use in_code::region_in;
 pub use kinds::{is_acquiring, is_destroying};
