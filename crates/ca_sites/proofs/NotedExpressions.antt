@@ -14,7 +14,7 @@ use Rattle.ca_sites.specs.declared.accesses.Found.{Found}
 use Rattle.ca_sites.specs.Found.{note}
 use Rattle.ca_sites.proofs.NotedItems.{note_append, from_next}
 
-accesses_out : (x : Exp) (l : _) → out-Exp x ≡ l → accesses x ≡ by_accesses l
+pub accesses_out : (x : Exp) (l : _) → out-Exp x ≡ l → accesses x ≡ by_accesses l
 accesses_out x l is = fold_out-Exp (List Access) (Bool × List Access) exp_accesses place_accesses x ∙ ap by_accesses is
 
 -- two parts one after another
@@ -28,7 +28,7 @@ noted_load i x p k l m n is first second =
     noted_two i l m n (accesses x) (accesses_to p).1 (loads (accesses_to p).0) (ap accesses is ∙ accesses_load p k) first (second ∙ ap (λ b. note i m (loads b)) (sym through))
 
 -- operands from left to right
-both_accesses : (x a b : Exp) → ((o : BinOp) × (x ≡ e.Binary o a b)) ⊎ ((x ≡ e.And a b) ⊎ (x ≡ e.Or a b)) → accesses x ≡ accesses a ++ accesses b
+pub both_accesses : (x a b : Exp) → ((o : BinOp) × (x ≡ e.Binary o a b)) ⊎ ((x ≡ e.And a b) ⊎ (x ≡ e.Or a b)) → accesses x ≡ accesses a ++ accesses b
 both_accesses x a b (inl (o, is)) = ap accesses is ∙ accesses_binary o a b
 both_accesses x a b (inr (inl is)) = ap accesses is ∙ accesses_out (e.And a b) _ (e.outs-And a b)
 both_accesses x a b (inr (inr is)) = ap accesses is ∙ accesses_out (e.Or a b) _ (e.outs-Or a b)

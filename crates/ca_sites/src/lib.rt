@@ -3,8 +3,10 @@
 
 mod accesses;
 mod items;
+mod laws;
 mod places;
 mod site;
 mod statements;
 
+pub use laws::loads_have_their_places;
 pub use site::{Site, SiteKind, sites};
