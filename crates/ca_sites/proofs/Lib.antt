@@ -4,3 +4,6 @@ pub mod TextStatements
 pub mod NotedExpressions
 pub mod TypedLoads
 pub mod LoadsPlaced
+pub mod ActsCounted
+pub mod StatementsCounted
+pub mod ProgramsCounted

@@ -1,12 +1,14 @@
 -- The sites that are found are those of the source.
-use Rattle.std.proofs.Common.{◌≡◌, ℕ, ◌+◌, List, [], ◌∷◌, ◌++◌, refl, sym, ap, ◌∙◌, append_assoc, append-nil}
+use Rattle.std.proofs.Common.{◌≡◌, ℕ, ◌+◌, ◌<◌, List, [], ◌∷◌, ◌++◌, map, length, drop, get_or, arith, refl, sym, ap, ◌∙◌, append_assoc, append-nil, add-one}
+use Rattle.std.proofs.Math.Seq.{drop-cons}
+use Rattle.std.proofs.lemmas.List.{drop_all}
 use Rattle.ca_tree.specs.declared.text.Pos.{Pos}
 use Rattle.ca_model.specs.declared.tree.Item.{Item}
 use Rattle.ca_model.specs.Accesses as accesses
 use Rattle.ca_model.specs.Accesses.{Access, At_site, Named_load, Named_store, Allocates, act_accesses, sites_after, sites_in}
 use Rattle.ca_sites.specs.declared.site.Site.{Site}
 use Rattle.ca_sites.specs.declared.accesses.Found.{Found}
-use Rattle.ca_sites.specs.Found.{kind_of, note, note_item, note_items, site_as, listed, listed_found}
+use Rattle.ca_sites.specs.Found.{kind_of, first_place, note, note_item, note_items, site_as, listed, listed_found}
 
 -- the sites of a source as they are found
 abbrev found_of : List accesses.Site → List Found
@@ -39,3 +41,19 @@ listed_same k (s ∷ ss) places = ap (λ xs. site_as k s.item.id (kind_of s.kind
 pub listed_all : (is : List Item) (found read : List Found) (places all : List Pos) (list : List Site) → found ≡ note_items [] is → read ≡ found → places ≡ all → list ≡ listed_found 0 read places → list ≡ listed 0 (sites_in is) all
 listed_all is found read places all list found-is read-is places-is list-is =
     list-is ∙ (ap (λ xs. listed_found 0 xs places) (read-is ∙ (found-is ∙ noted_all is [])) ∙ (ap (listed_found 0 (found_of (sites_in is))) places-is ∙ listed_same 0 (sites_in is) all))
+
+-- ---- the places of the list
+
+listed_places : (k : ℕ) (ss : List accesses.Site) (all : List Pos) → k + length ss ≡ length all → map (λ (s : Site). s.pos) (listed k ss all) ≡ drop k all
+listed_places k [] all same = sym (drop_all k all (omega (arith, same)))
+listed_places k (s ∷ ss) all same =
+    let lt : k < length all = omega (arith, same) in
+    let more : (k + 1) + length ss ≡ length all = omega (arith, same) in
+    ap (λ ps. get_or all k first_place ∷ ps) (listed_places (k + 1) ss all more) ∙ (ap (λ (j : ℕ). get_or all k first_place ∷ drop j all) (add-one k) ∙ sym (drop-cons all k first_place lt))
+
+all_kept : (all : List Pos) → drop 0 all ≡ all
+all_kept [] = refl
+all_kept (p ∷ ps) = refl
+
+pub places_listed : (ss : List accesses.Site) (all : List Pos) (list : List Site) → list ≡ listed 0 ss all → length all ≡ length ss → map (λ (s : Site). s.pos) list ≡ all
+places_listed ss all list is same = ap (map (λ (s : Site). s.pos)) is ∙ (listed_places 0 ss all (let h = same in omega (arith, h)) ∙ all_kept all)

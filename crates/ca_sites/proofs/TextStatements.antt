@@ -12,7 +12,7 @@ use Rattle.ca_sites.proofs.NotedItems.{from_next}
 pub places_out : (x : Stmt) (l : Stmt-F Stmt) → out-Stmt x ≡ l → stmt_places x ≡ stmt_step (map-Stmt Stmt (List Pos) stmt_places l)
 places_out x l is = fold_out-Stmt (List Pos) stmt_step x ∙ ap (λ y. stmt_step (map-Stmt Stmt (List Pos) stmt_places y)) is
 
-joined_places : (xs : List Stmt) → joined (map stmt_places xs) ≡ stmts_places xs
+pub joined_places : (xs : List Stmt) → joined (map stmt_places xs) ≡ stmts_places xs
 joined_places [] = refl
 joined_places (x ∷ xs) = ap (λ ps. stmt_places x ++ ps) (joined_places xs)
 

@@ -1,6 +1,6 @@
 //! The list of sites.
 
-ghost use Rattle.std.specs.Prelude.{◌≡◌, [], IfOk, get_or};
+ghost use Rattle.std.specs.Prelude.{◌≡◌, [], IfOk, get_or, map};
 ghost use Rattle.ca_model.specs.Accesses.{all_sites};
 ghost use Rattle.ca_sites.specs.Found.{first_place, listed, listed_found};
 ghost use Rattle.ca_sites.specs.TextPlaces.{site_places};
@@ -70,7 +70,8 @@ fn numbered(alloc: Global, found: &[Found], places: &[Pos]) -> Result<Vec<Site>,
 /// error is want of memory, which is also the answer where there are more sites than numbers of 32 bits. It takes time in
 /// the length of the source: one pass over its typed tree and one over its text's.
 pub fn sites(alloc: Global, checked: &Checked) -> Result<Vec<Site>, NoMemory>
-    ensures { IfOk result (λ ss. ss.items ≡ listed 0 (all_sites checked.now.typed) (site_places checked.now.program)) }
+    ensures sites { IfOk result (λ ss. ss.items ≡ listed 0 (all_sites checked.now.typed) (site_places checked.now.program)) }
+    ensures places { IfOk result (λ ss. map (λ s. s.pos) ss.items ≡ site_places checked.now.program) }
 {
     let found = found_in(alloc, checked)?;
     let places = places_in(alloc, checked.program())?;
