@@ -55,13 +55,29 @@ fn a_loop_has_a_point_and_the_entry(rt: HostRuntime) -> Result<(), Fail> {
 fn conditions_are_reached_from_all_sides(rt: HostRuntime) -> Result<(), Fail> {
     let alloc = rt.alloc();
     let found = shown(alloc, LOOPS, 0, 2)?;
-    assert_eq!(rt; found.as_str(), " 1 2 3 4 after entry", "the condition of a `while`");
+    assert_eq!(rt;
+        found.as_str(),
+        " 1 2 3 4 after entry",
+        "the condition of a `while`"
+    );
     let found = shown(alloc, LOOPS, 0, 6)?;
-    assert_eq!(rt; found.as_str(), " 1 2 3 4 5 6 after entry", "behind `break`, and of a `do`");
+    assert_eq!(rt;
+        found.as_str(),
+        " 1 2 3 4 5 6 after entry",
+        "behind `break`, and of a `do`"
+    );
     let found = shown(alloc, LOOPS, 0, 8)?;
-    assert_eq!(rt; found.as_str(), " 1 2 3 4 5 6 7 9 after 11 12 entry", "of a `for`");
+    assert_eq!(rt;
+        found.as_str(),
+        " 1 2 3 4 5 6 7 9 after 11 12 entry",
+        "of a `for`"
+    );
     let found = shown(alloc, LOOPS, 0, 13)?;
-    assert_eq!(rt; found.as_str(), " 1 2 3 4 5 6 7 8 9 after 11 12 entry", "behind the `for`");
+    assert_eq!(rt;
+        found.as_str(),
+        " 1 2 3 4 5 6 7 8 9 after 11 12 entry",
+        "behind the `for`"
+    );
     Ok(())
 }
 
@@ -69,9 +85,17 @@ fn conditions_are_reached_from_all_sides(rt: HostRuntime) -> Result<(), Fail> {
 fn paths_stop_at_items_that_destroy(rt: HostRuntime) -> Result<(), Fail> {
     let alloc = rt.alloc();
     let found = shown(alloc, LOOPS, 0, 9)?;
-    assert_eq!(rt; found.as_str(), " after 11 12", "the step of a `for`, behind both branches");
+    assert_eq!(rt;
+        found.as_str(),
+        " after 11 12",
+        "the step of a `for`, behind both branches"
+    );
     let found = shown(alloc, LOOPS, 0, 11)?;
-    assert_eq!(rt; found.as_str(), " 1 2 3 4 5 6 7 8 9 10 after 11 12 entry", "in a branch");
+    assert_eq!(rt;
+        found.as_str(),
+        " 1 2 3 4 5 6 7 8 9 10 after 11 12 entry",
+        "in a branch"
+    );
     let found = shown(alloc, LOOPS, 0, 14)?;
     assert_eq!(rt; found.as_str(), " after", "behind a `return`");
     Ok(())
@@ -83,8 +107,16 @@ fn the_own_item_counts_as_the_entry_alone(rt: HostRuntime) -> Result<(), Fail> {
     let found = shown(alloc, OWN_SITES, 0, 1)?;
     assert_eq!(rt; found.as_str(), " after entry", "the first item");
     let found = shown(alloc, OWN_SITES, 0, 3)?;
-    assert_eq!(rt; found.as_str(), " 2 after 1 3", "a loop round an item that destroys");
+    assert_eq!(rt;
+        found.as_str(),
+        " 2 after 1 3",
+        "a loop round an item that destroys"
+    );
     let found = shown(alloc, OPPOSED_LOCKS, 1, 10)?;
-    assert_eq!(rt; found.as_str(), " 8 9 after entry", "in the second function");
+    assert_eq!(rt;
+        found.as_str(),
+        " 8 9 after entry",
+        "in the second function"
+    );
     Ok(())
 }
