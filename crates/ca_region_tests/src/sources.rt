@@ -2,6 +2,7 @@
 use ca_lex::{LexNo, tokens};
 use ca_model::Checked;
 use ca_read::{ReadNo, program};
+use ca_shapes::each_program_of_a_text_is_written;
 use ca_types::{TypeNo, check_types};
 use std::alloc::{AllocError, Global};
 
@@ -99,6 +100,7 @@ int main(void) {
 }";
 
 /// The typing of a text; `None` where it has none.
+#[tactic(auto, using(ca_grammar::proofs::LexedEnds::ends_once))]
 pub(crate) fn typed(alloc: Global, text: &[u8]) -> Result<Option<Checked>, AllocError> {
     let words = match tokens(alloc, text) {
         Ok(words) => words,
@@ -110,6 +112,7 @@ pub(crate) fn typed(alloc: Global, text: &[u8]) -> Result<Option<Checked>, Alloc
         Err(ReadNo::NoMemory) => return Err(AllocError),
         Err(ReadNo::Fault(_)) => return Ok(None),
     };
+    each_program_of_a_text_is_written();
     match check_types(alloc, read) {
         Ok(checked) => Ok(Some(checked)),
         Err(TypeNo::NoMemory) => Err(AllocError),
