@@ -2,6 +2,8 @@
 #![tactic(auto)]
 
 #[cfg(test)]
+mod in_code;
+#[cfg(test)]
 mod kinds;
 #[cfg(test)]
 mod regions;

@@ -14,7 +14,7 @@ fn numbers(alloc: Global, list: &[ItemId], text: &mut String) -> Result<(), Allo
     Ok(())
 }
 
-fn region_shown(alloc: Global, found: &Region) -> Result<String, AllocError> {
+pub(crate) fn region_shown(alloc: Global, found: &Region) -> Result<String, AllocError> {
     let mut text = String::new(alloc);
     numbers(alloc, found.items.as_slice(), &mut text)?;
     text.push_str(" after")?;
