@@ -1,0 +1,9 @@
+pub mod NotedItems
+pub mod ListedSites
+pub mod TextStatements
+pub mod NotedExpressions
+pub mod TypedLoads
+pub mod LoadsPlaced
+pub mod ActsCounted
+pub mod StatementsCounted
+pub mod ProgramsCounted
