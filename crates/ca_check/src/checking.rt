@@ -1,6 +1,6 @@
 //! A list of entries as a run.
 
-ghost use Rattle.std.specs.Prelude.{◌≡◌, ◌<◌, ◌^◌, ◌⊎◌, ℕ, [], length, IfOk, IfErr};
+ghost use Rattle.std.specs.Prelude.{◌≡◌, ◌⊎◌, ℕ, [], IfOk, IfErr};
 ghost use Rattle.ca_model.specs.Plans.{Fits};
 ghost use Rattle.ca_check.specs.Verdicts.{IsRunTo, IsFirstNoStep, IsVerdict};
 
@@ -18,10 +18,19 @@ pub enum CheckNo {
     NoMemory,
 }
 
+// The refusal at an index. There is no memory for so many entries that their number has more than 32 bits.
+fn not_a_run(index: usize) -> CheckNo
+    ensures { (result ≡ CheckNo.NotARun index) ⊎ (result ≡ CheckNo.NoMemory) }
+{
+    match u32::try_from(index) {
+        Ok(index) => CheckNo::NotARun { index },
+        Err(_) => CheckNo::NoMemory,
+    }
+}
+
 // Follows the entries, from the opening on.
 fn follow_all(alloc: Global, machine: &mut Machine, events: &[Event]) -> Result<(), CheckNo>
-    requires at_opening { machine.old.trace ≡ [] }
-    requires few { length events.now < 2 ^ 32 }
+    requires { machine.old.trace ≡ [] }
     ensures all { IfOk result (λ u. machine.new ≡ record machine.old { trace = events.now }) }
     ensures refused { IfErr result (λ no. IsVerdict machine.old.source machine.old.plan events.now (Err no)) }
 {
@@ -30,11 +39,7 @@ fn follow_all(alloc: Global, machine: &mut Machine, events: &[Event]) -> Result<
         let _reached = machine.shared();
         match machine.follow(alloc, event) {
             Ok(()) => {}
-            Err(FollowNo::NotAStep) => {
-                return Err(CheckNo::NotARun {
-                    index: index as u32,
-                });
-            }
+            Err(FollowNo::NotAStep) => return Err(not_a_run(index)),
             Err(FollowNo::NoMemory) => return Err(CheckNo::NoMemory),
         }
     }
@@ -48,8 +53,7 @@ fn verdict(
     plan: &Plan,
     events: &[Event],
 ) -> Result<Ending, CheckNo>
-    requires fits { Fits checked.now.typed plan.now }
-    requires few { length events.now < 2 ^ 32 }
+    requires { Fits checked.now.typed plan.now }
     ensures { IsVerdict checked.now.typed plan.now events.now result }
 {
     let mut machine = match Machine::start(alloc, checked, plan) {
@@ -77,8 +81,7 @@ pub fn check(
     plan: &Plan,
     events: &[Event],
 ) -> Result<Ending, CheckNo>
-    requires fits { Fits checked.now.typed plan.now }
-    requires few { length events.now < 2 ^ 32 }
+    requires { Fits checked.now.typed plan.now }
     ensures verdict { IsVerdict checked.now.typed plan.now events.now result }
     ensures ok { (end : Ending) → IsRunTo checked.now.typed plan.now events.now end → (result ≡ Ok end) ⊎ (result ≡ Err CheckNo.NoMemory) }
     ensures not_a_run { (index : ℕ) → IsFirstNoStep checked.now.typed plan.now events.now index → (result ≡ Err (CheckNo.NotARun index)) ⊎ (result ≡ Err CheckNo.NoMemory) }
