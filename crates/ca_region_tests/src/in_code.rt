@@ -1,15 +1,16 @@
 // What stands before items of sources, by their code.
 use crate::regions::region_shown;
-use crate::sources::{LOOP_POINTS, OPPOSED_LOCKS, typed};
 use ca_lower::lower;
 use ca_model::{Plan, fits};
 use ca_region::region_in;
+use ca_sources::{LOOP_POINTS, OPPOSED_LOCKS};
 use ca_tree::ItemId;
+use ca_worked::typing;
 use std::alloc::{AllocError, Global};
 use std::test::Fail;
 
 fn shown(alloc: Global, text: &[u8], item: u32) -> Result<String, AllocError> {
-    let Some(checked) = typed(alloc, text)? else {
+    let Ok(checked) = typing(alloc, text)? else {
         return format!(in alloc; "no typing");
     };
     let plan = Plan::empty(alloc);

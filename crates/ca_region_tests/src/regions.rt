@@ -1,8 +1,10 @@
 // What stands before items in their functions.
-use crate::sources::{LOOP_POINTS, LOOPS, OPPOSED_LOCKS, OWN_SITES, typed};
+use crate::sources::{LOOPS, OWN_SITES};
 use ca_flow::{Graph, NodeId};
 use ca_region::{Region, region};
+use ca_sources::{LOOP_POINTS, OPPOSED_LOCKS};
 use ca_tree::{FunId, ItemId};
+use ca_worked::typing;
 use std::alloc::{AllocError, Global};
 use std::test::Fail;
 
@@ -28,7 +30,7 @@ pub(crate) fn region_shown(alloc: Global, found: &Region) -> Result<String, Allo
 // The region from an item of a function of a text. The search reads the links between items alone, so the graph has no
 // nodes.
 fn shown(alloc: Global, text: &[u8], function: u32, item: u32) -> Result<String, AllocError> {
-    let Some(checked) = typed(alloc, text)? else {
+    let Ok(checked) = typing(alloc, text)? else {
         return format!(in alloc; "no typing");
     };
     if function >= checked.functions() {

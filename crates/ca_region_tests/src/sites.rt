@@ -1,11 +1,13 @@
 // The sites of sources: their numbers, places, kinds and items.
-use crate::sources::{LOOP_POINTS, LOOPS, OPPOSED_LOCKS, OWN_SITES, SEVERAL_SITES, typed};
+use crate::sources::{LOOPS, OWN_SITES, SEVERAL_SITES};
 use ca_sites::sites;
+use ca_sources::{LOOP_POINTS, OPPOSED_LOCKS};
+use ca_worked::typing;
 use std::alloc::{AllocError, Global};
 use std::test::Fail;
 
 fn shown(alloc: Global, text: &[u8]) -> Result<String, AllocError> {
-    let Some(checked) = typed(alloc, text)? else {
+    let Ok(checked) = typing(alloc, text)? else {
         return format!(in alloc; "no typing");
     };
     let mut all = String::new(alloc);
