@@ -14,3 +14,4 @@ pub mod SiteItems
 pub mod UsesFound
 pub mod LoweredSites
 pub mod CrossingCode
+pub mod WantsOfKinds

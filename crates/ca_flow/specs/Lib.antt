@@ -8,3 +8,4 @@ pub mod Lowerings
 pub mod Definitions
 pub mod Places
 pub mod Tables
+pub mod Kinds

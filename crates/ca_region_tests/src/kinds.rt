@@ -1,6 +1,5 @@
 // Instructions that destroy, and that acquire.
-use ca_flow::{AtSite, Instr, Reg};
-use ca_region::{is_acquiring, is_destroying};
+use ca_flow::{AtSite, Instr, Reg, is_acquiring, is_destroying};
 use ca_tree::{MutexId, SiteId};
 
 fn marks(instr: Instr) -> (bool, bool) {

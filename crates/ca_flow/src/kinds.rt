@@ -2,9 +2,9 @@
 
 ghost use Rattle.std.specs.Prelude.{◌≡◌, MatchBool};
 ghost use Rattle.ca_model.specs.Destroying.{ends_item};
-ghost use Rattle.ca_region.specs.Kinds.{AlwaysWants, NeverWants, is_acquisition, destroys_by_kind, acquires_by_kind};
+ghost use Rattle.ca_flow.specs.Kinds.{AlwaysWants, NeverWants, is_acquisition, destroys_by_kind, acquires_by_kind};
 
-use ca_flow::Instr;
+use crate::instr::Instr;
 
 fn destroys_by_kind(instr: &Instr) -> bool
     ensures { result ≡ destroys_by_kind instr.now }

@@ -8,7 +8,7 @@ use Rattle.ca_model.specs.Destroying.{ends_item}
 use Rattle.ca_flow.specs.declared.instr.Instr.{Instr}
 use Rattle.ca_flow.specs.declared.instr.Instr.TheVariants as instr
 use Rattle.ca_flow.specs.Instructions.{on, reg}
-use Rattle.ca_region.specs.Kinds.{AlwaysWants, NeverWants, is_acquisition, destroys_by_kind, acquires_by_kind}
+use Rattle.ca_flow.specs.Kinds.{AlwaysWants, NeverWants, is_acquisition, destroys_by_kind, acquires_by_kind}
 
 abbrev Ended : Type 0
 Ended = List Value × Bool
