@@ -9,9 +9,11 @@ pub mod Neighbours
 pub mod TypedSources
 pub mod FunctionItems
 pub mod UsesOfItems
+pub mod SeenChanges
 pub mod SitePlaces
 pub mod SiteItems
 pub mod UsesFound
+pub mod KindsFound
 pub mod LoweredSites
 pub mod CrossingCode
 pub mod WantsOfKinds

@@ -77,7 +77,7 @@ owners_length (f ∷ fs) =
     length-append (map (λ (i : Item). f.id) (items_of f)) (owners fs) ∙ (omega (arith, here, owners_length fs, length-append (items_of f) (all_items fs)))
 
 functions_are : (fs : List Function) → (uses_of fs).functions ≡ owners fs
-functions_are fs = functions_owned (uses [] (replicate (length fs) []) (replicate (length fs) false)) fs
+functions_are fs = functions_owned (uses [] [] [] (replicate (length fs) []) (replicate (length fs) false)) fs
 
 pub functions_count : (fs : List Function) → length (uses_of fs).functions ≡ length (all_items fs)
 functions_count fs = ap (λ xs. length xs) (functions_are fs) ∙ owners_length fs
@@ -144,7 +144,7 @@ functions_called f u (g ∷ fs) lt =
 calls_are : (fs : List Function) (f : ℕ) → f < length fs → (length (uses_of fs).calls ≡ length fs) × (row (uses_of fs).calls f ≡ calls_to f (all_items fs))
 calls_are fs f lt =
     let count : length (replicate (length fs) []) ≡ length fs = length-replicate {A = List ItemId} (length fs) [] in
-    let h = functions_called f (uses [] (replicate (length fs) []) (replicate (length fs) false)) fs (omega (arith, lt, count)) in
+    let h = functions_called f (uses [] [] [] (replicate (length fs) []) (replicate (length fs) false)) fs (omega (arith, lt, count)) in
     (h.0 ∙ count, h.1 ∙ ap (λ (r : List ItemId). r ++ calls_to f (all_items fs)) (get_or-replicate {A = List ItemId} (length fs) f [] [] lt))
 
 pub calls_count : (fs : List Function) (f : ℕ) → f < length fs → length (uses_of fs).calls ≡ length fs
@@ -301,7 +301,7 @@ functions_created f u (g ∷ fs) lt =
 created_are : (fs : List Function) (f : ℕ) → f < length fs → (length (uses_of fs).created ≡ length fs) × (get_or (uses_of fs).created f false ≡ is_created f (all_items fs))
 created_are fs f lt =
     let count : length (replicate (length fs) false) ≡ length fs = length-replicate (length fs) false in
-    let h = functions_created f (uses [] (replicate (length fs) []) (replicate (length fs) false)) fs (omega (arith, lt, count)) in
+    let h = functions_created f (uses [] [] [] (replicate (length fs) []) (replicate (length fs) false)) fs (omega (arith, lt, count)) in
     (h.0 ∙ count, h.1 ∙ ap (λ b. b || is_created f (all_items fs)) (get_or-replicate (length fs) f false false lt))
 
 pub created_count : (fs : List Function) (f : ℕ) → f < length fs → length (uses_of fs).created ≡ length fs

@@ -1,12 +1,12 @@
 -- The uses in statements and functions, by their parts.
-use Rattle.std.proofs.Common.{◌≡◌, ℕ, suc, ◌+◌, ◌<◌, List, [], ◌∷◌, ◌++◌, map, length, Some, drop, get_or, refl, sym, ap, ◌∙◌, add-one}
+use Rattle.std.proofs.Common.{◌≡◌, ℕ, suc, ◌+◌, ◌<◌, List, [], ◌∷◌, ◌++◌, map, length, Some, drop, get_or, Option, refl, sym, ap, ◌∙◌, add-one}
 use Rattle.std.proofs.Math.Seq.{drop-cons}
 use Rattle.ca_tree.specs.declared.numbers.FunId.{FunId}
 use Rattle.ca_model.specs.declared.tree.Item.{Item}
 use Rattle.ca_model.specs.declared.tree.Function.{Function}
 use Rattle.ca_model.specs.declared.tree.Stmt.{Stmt}
 use Rattle.ca_model.specs.declared.tree.Stmt.TheVariants as s
-use Rattle.ca_model.specs.Sites.{joined, items_in, items_in_all, items_of}
+use Rattle.ca_model.specs.Sites.{if_any, joined, items_in, items_in_all, items_of}
 use Rattle.ca_model.proofs.Equations.{items_out, items_block}
 use Rattle.ca_flow.specs.Tables.{Uses, with_item, with_items}
 
@@ -32,6 +32,13 @@ module _ (f : FunId) where
   pub with_do : (x a : Stmt) (c : Item) (u k v : Uses) → x ≡ s.Do a c → k ≡ with_items f u (items_in a) → v ≡ with_item f k c → v ≡ with_items f u (items_in x)
   with_do x a c u k v is first second =
       second ∙ ap (λ k. with_item f k c) first ∙ sym (with_append u (items_in a) (c ∷ [])) ∙ ap (with_items f u) (sym (ap items_in is ∙ items_out (s.Do a c) _ (s.outs-Do a c)))
+
+  pub with_for : (x a : Stmt) (first step : Option Item) (c : Item) (u j k l v : Uses) → x ≡ s.For first c step a → j ≡ with_items f u (if_any first) → k ≡ with_item f j c → l ≡ with_items f k (if_any step) → v ≡ with_items f l (items_in a)
+      → v ≡ with_items f u (items_in x)
+  with_for x a first step c u j k l v is begun tested stepped done =
+      done ∙ ap (λ l. with_items f l (items_in a)) (stepped ∙ ap (λ k. with_items f k (if_any step)) (tested ∙ ap (λ j. with_item f j c) begun))
+      ∙ sym (with_append (with_item f (with_items f u (if_any first)) c) (if_any step) (items_in a)) ∙ sym (with_append u (if_any first) (c ∷ (if_any step ++ items_in a)))
+      ∙ ap (with_items f u) (sym (ap items_in is ∙ items_out (s.For first c step a) _ (s.outs-For first c step a)))
 
   pub next_statement : (xs : List Stmt) (k m : Uses) (i : ℕ) (x : Stmt) (whole : Uses) → i < length xs → x ≡ get_or xs i x → with_items f k (items_in_all (drop i xs)) ≡ whole → m ≡ with_items f k (items_in x)
       → with_items f m (items_in_all (drop (i + 1) xs)) ≡ whole

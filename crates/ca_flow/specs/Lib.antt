@@ -7,5 +7,6 @@ pub mod Flows
 pub mod Lowerings
 pub mod Definitions
 pub mod Places
+pub mod Changes
 pub mod Tables
 pub mod Kinds

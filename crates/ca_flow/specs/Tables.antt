@@ -8,10 +8,12 @@ use Rattle.ca_model.specs.declared.tree.Act.TheVariants as act
 use Rattle.ca_model.specs.declared.tree.Item.{Item}
 use Rattle.ca_model.specs.declared.tree.Function.{Function}
 use Rattle.ca_model.specs.declared.tree.GlobalStart.{GlobalStart}
-use Rattle.ca_model.specs.Accesses.{all_sites}
+use Rattle.ca_model.specs.Accesses.{sites_after, act_accesses, all_sites}
 use Rattle.ca_model.specs.Sites.{items_of}
 use Rattle.ca_flow.specs.declared.instr.NodeId.{NodeId}
 use Rattle.ca_flow.specs.declared.instr.Step.{Step}
+use Rattle.ca_flow.specs.declared.changes.ItemKind.{ItemKind}
+use Rattle.ca_flow.specs.Changes.{kind_of_act, changes_before}
 use Rattle.ca_flow.specs.Graphs.{targets}
 use Rattle.ca_flow.specs.Lowerings.{Lowering, StandsAt}
 
@@ -46,14 +48,17 @@ pub record HasNeighbours (steps : List Step) (after before : List (List NodeId))
 
 -- ---- items
 
--- the function of each item so far, the items that call each function, and whether a thread is made of it
+-- the function and the kind of each item so far, and for each of their sites whether something earlier in its item can change; for each function the
+-- items that call it, and whether a thread is made of it
 pub record Uses : Type 0 where
   pub functions : List FunId
+  pub kinds : List ItemKind
+  pub changes : List Bool
   pub calls : List (List ItemId)
   pub created : List Bool
 
-abbrev pub uses : List FunId → List (List ItemId) → List Bool → Uses
-uses functions calls created = record { functions = functions; calls = calls; created = created }
+abbrev pub uses : List FunId → List ItemKind → List Bool → List (List ItemId) → List Bool → Uses
+uses functions kinds changes calls created = record { functions = functions; kinds = kinds; changes = changes; calls = calls; created = created }
 
 abbrev pub with_calls : Act → ItemId → List (List ItemId) → List (List ItemId)
 with_calls (act.Call x f es) i calls = longer calls f.0 i
@@ -65,7 +70,13 @@ with_created _ created = created
 
 -- with an item of a function
 abbrev pub with_item : FunId → Uses → Item → Uses
-with_item f u i = record { functions = u.functions ++ f ∷ []; calls = with_calls i.act i.id u.calls; created = with_created i.act u.created }
+with_item f u i = record {
+  functions = u.functions ++ f ∷ [];
+  kinds = u.kinds ++ kind_of_act i.act ∷ [];
+  changes = u.changes ++ changes_before (sites_after i [] (act_accesses i.act));
+  calls = with_calls i.act i.id u.calls;
+  created = with_created i.act u.created;
+}
 
 abbrev pub with_items : FunId → Uses → List Item → Uses
 with_items f u [] = u
@@ -77,7 +88,7 @@ with_functions u (f ∷ fs) = with_functions (with_items f.id u (items_of f)) fs
 
 -- the uses in a whole source
 abbrev pub uses_of : List Function → Uses
-uses_of fs = with_functions (uses [] (replicate (length fs) []) (replicate (length fs) false)) fs
+uses_of fs = with_functions (uses [] [] [] (replicate (length fs) []) (replicate (length fs) false)) fs
 
 -- ---- sites
 

@@ -11,8 +11,10 @@ ghost use Rattle.ca_model.specs.Sites.{all_items, items_of};
 ghost use Rattle.ca_model.specs.declared.tree.Function.{Function};
 ghost use Rattle.ca_model.specs.declared.tree.Item.{Item};
 ghost use Rattle.ca_flow.specs.contracts.code.Code as a_code;
+ghost use Rattle.ca_flow.specs.Changes.{any_changes, kind_of_act};
 ghost use Rattle.ca_flow.specs.Lowerings.{AreGraphsOf, IsLowering, StandsAt};
 
+use crate::changes::ItemKind;
 use crate::graph::Graph;
 use crate::instr::NodeId;
 use crate::main_function::main_of;
@@ -150,6 +152,22 @@ impl Code {
         ensures { (f : Function) (x : Item) → Contains self.now.source.functions f → Contains (items_of f) x → x.id ≡ item → result ≡ f.id }
     {
         self.uses.function_at((item.0 - 1) as usize)
+    }
+
+    /// What an item does, as a plan asks for it. It takes no memory.
+    pub fn kind_of(&self, item: ItemId) -> ItemKind
+        requires { (x : Item) × IsItem self.now.source x item }
+        ensures { (x : Item) → IsItem self.now.source x item → result ≡ kind_of_act x.act }
+    {
+        self.uses.kind_at((item.0 - 1) as usize)
+    }
+
+    /// Whether something earlier in the item of a site reads what is shared or allocates. It takes no memory.
+    pub fn changes_before(&self, site: SiteId) -> bool
+        requires { (s : Site) × IsSite self.now.source s site }
+        ensures { (s : Site) → IsSite self.now.source s site → result ≡ any_changes s.earlier }
+    {
+        self.uses.changes_at((site.0 - 1) as usize)
     }
 
     /// The function of a site, and a node of its graph with that site. It takes no memory.

@@ -1,6 +1,7 @@
 //! Graphs of instructions over registers, which of them destroy and which acquire, the links between items, and the code of a source under a plan.
 #![tactic(auto)]
 
+mod changes;
 mod code;
 mod graph;
 mod instr;
@@ -12,6 +13,7 @@ mod rows;
 mod searches;
 mod uses;
 
+pub use changes::ItemKind;
 pub use code::{Code, code_crosses_threads};
 pub use graph::Graph;
 pub use instr::{AtSite, Instr, Links, Node, NodeId, Reg, Regs, Step};

@@ -1,7 +1,8 @@
-// Links between items, and the nodes before and after each node, worked by hand.
+// Links between items, the nodes before and after each node, and what items do, worked by hand.
+use crate::changes::kind_of;
 use crate::graph::{nodes_after, nodes_before};
-use crate::{Instr, Links, Node, NodeId, Reg, Step, destroys, find_links};
-use ca_model::{Act, Exp, Function, Item, Place, Stmt, Target};
+use crate::{Instr, ItemKind, Links, Node, NodeId, Reg, Step, destroys, find_links};
+use ca_model::{Act, BinOp, Exp, Function, Item, LoadKind, Place, Stmt, Target};
 use ca_tree::listed::Listed;
 use ca_tree::{FunId, GlobalId, ItemId, MutexId, NoMemory, Pos, VarId};
 use sqlite_items::Boxed;
@@ -201,6 +202,54 @@ fn locks_and_locals_destroy_nothing(rt: HostRuntime) {
 fn a_malloc_into_a_place_destroys(rt: HostRuntime) -> Result<(), Fail> {
     let target = Target::Place(place(rt.alloc())?);
     assert!(rt; destroys_one(Act::Malloc(target, Exp::Num(1), 1)));
+    Ok(())
+}
+
+// A load through a pointer that is in a global.
+fn load(alloc: Global) -> Result<Exp, NoMemory> {
+    let pointer = Exp::Load(place(alloc)?, LoadKind::Pointer);
+    let at = Place {
+        base: Boxed::new(alloc, pointer)?,
+        index: None,
+        field: 0,
+        through: true,
+    };
+    Ok(Exp::Load(at, LoadKind::Int))
+}
+
+// *p + *p; and assert(1);
+#[test]
+fn a_read_is_known_at_the_sites_behind_it(rt: HostRuntime) -> Result<(), Fail> {
+    let alloc = rt.alloc();
+    let sum = Exp::Binary(
+        BinOp::Add,
+        Boxed::new(alloc, load(alloc)?)?,
+        Boxed::new(alloc, load(alloc)?)?,
+    );
+    let mut changes = Vec::new(alloc);
+    let read = kind_of(&item(1, Act::Cond(sum)), &mut changes)?;
+    let tested = kind_of(&item(2, Act::Assert(Exp::Num(1))), &mut changes)?;
+    let does = |can_change| ItemKind {
+        is_lock: false,
+        has_malloc: false,
+        can_change,
+    };
+    assert_eq!(rt; read, does(true));
+    assert_eq!(rt; tested, does(false));
+    assert_eq!(rt; changes.as_slice(), [true, true, false].as_slice());
+    Ok(())
+}
+
+// lock(&m); and x = malloc(1), where x is a local.
+#[test]
+fn a_lock_reads_nothing_and_a_malloc_changes(rt: HostRuntime) -> Result<(), Fail> {
+    let mut changes = Vec::new(rt.alloc());
+    let lock = kind_of(&item(1, Act::Lock(MutexId(0))), &mut changes)?;
+    let local = Target::Local(VarId(0));
+    let malloc = kind_of(&item(2, Act::Malloc(local, Exp::Num(1), 1)), &mut changes)?;
+    assert!(rt; lock.is_lock && !lock.has_malloc && !lock.can_change);
+    assert!(rt; !malloc.is_lock && malloc.has_malloc && malloc.can_change);
+    assert_eq!(rt; changes.as_slice(), [false].as_slice());
     Ok(())
 }
 

@@ -1,19 +1,23 @@
-//! Which function each item is of, which items call each function, and of which functions threads are made.
+//! Which function each item is of and what it does, which items call each function, and of which functions threads are made.
 
 ghost use Rattle.std.specs.Prelude.{◌≡◌, ◌<◌, [], IfOk, length, replicate, false, get_or};
 ghost use Rattle.ca_model.specs.Sites.{if_any, items_in, items_in_all, items_of};
 ghost use Rattle.ca_flow.specs.Tables.{row, with_item, with_items, uses, uses_of};
 
+use crate::changes::{ItemKind, kind_of};
 use crate::rows::{add, empty_rows};
 use ca_model::{Act, Checked, Function, Item, Stmt};
 use ca_tree::{FunId, ItemId, NoMemory};
 use std::alloc::Global;
 use std::marker::Model;
 
-/// The function of each item in order; for each function the items that call it, and whether a thread is made of it.
+/// The function and the kind of each item in order, and for each site whether something earlier in its item reads what is
+/// shared or allocates; for each function the items that call it, and whether a thread is made of it.
 #[derive(Drop)]
 pub(crate) struct Uses {
     functions: Vec<FunId>,
+    kinds: Vec<ItemKind>,
+    changes: Vec<bool>,
     calls: Vec<Vec<ItemId>>,
     created: Vec<bool>,
 }
@@ -23,7 +27,7 @@ impl Model for Uses {
 
     ghost Value = { tables.Uses };
 
-    ghost view = { λ u. tables.uses u.functions.items (tables.rows_of u.calls.items) u.created.items };
+    ghost view = { λ u. tables.uses u.functions.items u.kinds.items u.changes.items (tables.rows_of u.calls.items) u.created.items };
 }
 
 impl Uses {
@@ -43,6 +47,22 @@ impl Uses {
         self.functions[place]
     }
 
+    /// The kind of an item, by its place.
+    pub(crate) fn kind_at(&self, place: usize) -> ItemKind
+        requires { place < length self.now.kinds }
+        ensures { result ≡ get_or self.now.kinds place result }
+    {
+        self.kinds[place]
+    }
+
+    /// Whether something earlier in the item of a site reads what is shared or allocates, by the place of the site.
+    pub(crate) fn changes_at(&self, place: usize) -> bool
+        requires { place < length self.now.changes }
+        ensures { result ≡ get_or self.now.changes place result }
+    {
+        self.changes[place]
+    }
+
     /// Whether a thread is made of a function.
     pub(crate) fn is_created(&self, f: FunId) -> bool
         requires { f.0 < length self.now.created }
@@ -55,6 +75,8 @@ impl Uses {
         ensures { IfOk result (λ u. self.new ≡ with_item function self.old item.now) }
     {
         self.functions.push(function)?;
+        let kind = kind_of(item, &mut self.changes)?;
+        self.kinds.push(kind)?;
         match &item.act {
             Act::Call(_, called, _) => add(&mut self.calls, called.0, item.id)?,
             Act::Create(_, begun, _) => {
@@ -135,10 +157,12 @@ fn function(uses: &mut Uses, function: &Function) -> Result<(), NoMemory>
 }
 
 fn no_uses(alloc: Global, functions: u32) -> Result<Uses, NoMemory>
-    ensures { IfOk result (λ u. u ≡ uses [] (replicate functions []) (replicate functions false)) }
+    ensures { IfOk result (λ u. u ≡ uses [] [] [] (replicate functions []) (replicate functions false)) }
 {
     Ok(Uses {
         functions: Vec::new(alloc),
+        kinds: Vec::new(alloc),
+        changes: Vec::new(alloc),
         calls: empty_rows(alloc, functions)?,
         created: vec![in alloc; false; functions as usize]?,
     })

@@ -3,7 +3,7 @@ use Rattle.ca_model.specs.declared.tree.Stmt.{Stmt}
 use Rattle.ca_model.specs.declared.tree.Stmt.TheVariants as s
 use Rattle.ca_model.specs.Sites.{items_in}
 use Rattle.ca_flow.specs.Tables.{Uses, with_items}
-use Rattle.ca_flow.proofs.UsesOfItems.{with_block, with_else, with_do, next_statement}
+use Rattle.ca_flow.proofs.UsesOfItems.{with_block, with_else, with_do, with_for, next_statement}
 use Rattle.ca_flow.proofs.uses.+statement.Goals as goal
 
 pub statement-returns-in_ok-statements-in-Block : goal.statement-returns-in_ok-statements-in-Block
@@ -21,6 +21,12 @@ pub statement-returns-in_ok-add-in-Do : goal.statement-returns-in_ok-add-in-Do
 statement-returns-in_ok-add-in-Do t c =
     with_do c.args.function c.args.stmt.now c.get-in-Do.result.now c.in-Do.cond c.args.uses.now c.statement-in-Do.new.uses c.add-in-Do.new.self
     (c.in-Do.is ∙ ap (λ (a : Stmt). s.Do a c.in-Do.cond) (sym c.get-in-Do.ensures)) c.in_ok-statement-in-Do.ensures c.in_ok-add-in-Do.ensures
+
+pub statement-returns-in_ok-statement-in-For : goal.statement-returns-in_ok-statement-in-For
+statement-returns-in_ok-statement-in-For t c =
+    with_for c.args.function c.args.stmt.now c.get-in-For.result.now c.in-For.first c.in-For.step c.in-For.cond c.args.uses.now c.add_if_there.new.uses c.add-in-For.new.self c.add_if_there-in-For.new.uses c.statement-in-For.new.uses
+    (c.in-For.is ∙ ap (λ (a : Stmt). s.For c.in-For.first c.in-For.cond c.in-For.step a) (sym c.get-in-For.ensures))
+    c.in_ok-add_if_there-in-For.ensures c.in_ok-add-in-For.ensures c.in_ok-add_if_there-in-For-2.ensures c.in_ok-statement-in-For.ensures
 
 pub statements-loop-stmt-preserved : goal.statements-loop-stmt-preserved
 statements-loop-stmt-preserved t c =
