@@ -13,12 +13,9 @@ use Rattle.ca_model.specs.Sites.{items_of, all_items}
 use Rattle.ca_model.specs.Plans.{IsItem, IsSite}
 use Rattle.ca_model.specs.WellFormed.{IsWellFormed}
 use Rattle.ca_flow.specs.declared.changes.ItemKind.{ItemKind}
-use Rattle.ca_flow.specs.Changes.{any_changes, kind_of_act, changes_before}
+use Rattle.ca_flow.specs.Changes.{any_changes, kind_of_act, kinds_of, changes_before}
 use Rattle.ca_flow.specs.Tables.{Uses, uses, with_item, with_items, with_functions, uses_of}
 use Rattle.ca_flow.proofs.FunctionItems.{all_numbered, place_of}
-
-abbrev kinds_of : List Item → List ItemKind
-kinds_of = map (λ (i : Item). kind_of_act i.act)
 
 -- ---- items
 

@@ -2,6 +2,7 @@
 use Rattle.std.specs.Prelude.{Bool, ◌||◌, List, [], ◌∷◌, ◌++◌, map}
 use Rattle.std.specs.List.{list_any}
 use Rattle.ca_model.specs.declared.tree.Act.{Act}
+use Rattle.ca_model.specs.declared.tree.Item.{Item}
 use Rattle.ca_model.specs.Accesses.{Access, At_site, Site, act_accesses}
 use Rattle.ca_model.specs.Hopeless.{can_change}
 use Rattle.ca_model.specs.Destroying.{is_lock, has_malloc}
@@ -13,6 +14,9 @@ any_changes = list_any can_change
 
 abbrev pub kind_of_act : Act → ItemKind
 kind_of_act a = record { is_lock = is_lock a; has_malloc = has_malloc a; can_change = any_changes (act_accesses a) }
+
+abbrev pub kinds_of : List Item → List ItemKind
+kinds_of = map (λ (i : Item). kind_of_act i.act)
 
 -- for each of some sites, whether something earlier in its item is one
 abbrev pub changes_before : List Site → List Bool

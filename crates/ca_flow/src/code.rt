@@ -11,7 +11,7 @@ ghost use Rattle.ca_model.specs.Sites.{all_items, items_of};
 ghost use Rattle.ca_model.specs.declared.tree.Function.{Function};
 ghost use Rattle.ca_model.specs.declared.tree.Item.{Item};
 ghost use Rattle.ca_flow.specs.contracts.code.Code as a_code;
-ghost use Rattle.ca_flow.specs.Changes.{any_changes, kind_of_act};
+ghost use Rattle.ca_flow.specs.Changes.{any_changes, kind_of_act, kinds_of};
 ghost use Rattle.ca_flow.specs.Lowerings.{AreGraphsOf, IsLowering, StandsAt};
 
 use crate::changes::ItemKind;
@@ -160,6 +160,13 @@ impl Code {
         ensures { (x : Item) → IsItem self.now.source x item → result ≡ kind_of_act x.act }
     {
         self.uses.kind_at((item.0 - 1) as usize)
+    }
+
+    /// What each item does, in order of their numbers, which begin with 1. It takes no memory.
+    pub fn kinds(&self) -> &[ItemKind]
+        ensures { result.now ≡ kinds_of (all_items self.now.source.functions) }
+    {
+        self.uses.kinds()
     }
 
     /// Whether something earlier in the item of a site reads what is shared or allocates. It takes no memory.

@@ -47,6 +47,13 @@ impl Uses {
         self.functions[place]
     }
 
+    /// The kinds of the items in order.
+    pub(crate) fn kinds(&self) -> &[ItemKind]
+        ensures { result.now ≡ self.now.kinds }
+    {
+        self.kinds.as_slice()
+    }
+
     /// The kind of an item, by its place.
     pub(crate) fn kind_at(&self, place: usize) -> ItemKind
         requires { place < length self.now.kinds }
