@@ -1,0 +1,2 @@
+pub mod LockSites
+pub mod Answering
