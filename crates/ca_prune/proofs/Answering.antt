@@ -131,11 +131,11 @@ module _ (p : Typed) (formed : IsWellFormed p) (bounded : IsBounded p) where
   )
 
 -- the item at a place of a list passes a test
-pub found_among : (p : Typed) (items : List ItemId) (k : ℕ) (d : ItemId) (kind : ItemKind) (test : Act → Bool) → k < length items → ((i : ItemId) → Contains items i → (x : Item) × IsItem p x i)
+pub found_among : (p : Typed) (items : List ItemId) (k : ℕ) (d : ItemId) (kind : ItemKind) (test : Act → Bool) → k < length items → (get_or items k d).0 < 4294967296 → ((i : ItemId) → i.0 < 4294967296 → Contains items i → (x : Item) × IsItem p x i)
     → ((x : Item) → IsItem p x (get_or items k d) → kind ≡ kind_of_act x.act) → ((a : Act) → kind ≡ kind_of_act a → test a ≡ true) → HasAmong p items test
-found_among p items k d kind test lt are known passes =
+found_among p items k d kind test lt fits are known passes =
     let listed : Contains items (get_or items k d) = Contains-get_or items k d lt in
-    let x = are (get_or items k d) listed in
+    let x = are (get_or items k d) fits listed in
     (x.0, (x.1.0, refl), subst (Contains items) (sym x.1.1) listed, passes x.0.act (known x.0 x.1))
 
 -- the answer for a list of those before
