@@ -1,0 +1,4 @@
+pub mod Ahead
+pub mod Growing
+pub mod Sources
+pub mod Layered
