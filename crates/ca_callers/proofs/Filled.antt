@@ -23,7 +23,7 @@ use Rattle.ca_flow.specs.Flows.{IsFlowOf}
 use Rattle.ca_flow.specs.Lowerings.{Lowering, IsLowering}
 use Rattle.ca_flow.proofs.FunctionItems.{place_of, of_function, found_in, number_within, all_numbered}
 use Rattle.ca_callers.specs.Callers.{AddsAll, AnyOf, InRow, IsLinked, IsTableOf, IsBehind, IsBehindIn, IsAbove, IsAboveOf, IsBegun, IsTheFirst, item_number, function_number}
-use Rattle.ca_callers.proofs.Rows.{none_added, same_added, one_added, no_row, taken, take_all}
+use Rattle.ca_callers.proofs.Rows.{same_added, one_added, no_row, taken, take_all}
 
 -- an item of a source stands in one of its functions
 in_function : (fs : List Function) (i : Item) → Contains (all_items fs) i → (f : Function) × Contains fs f × Contains (items_of f) i
@@ -36,9 +36,6 @@ in_function (f ∷ fs) i c = elim (Contains-append_cases (items_of f) (all_items
 module _ (l : Lowering) (lowered : IsLowering l) (n : FunId) (f : Function) (at : slice_get l.source.functions n.0 ≡ Some f) where
   pub flow_at : (g : ControlFlow) → slice_get l.graphs n.0 ≡ Some g → IsFlowOf l.source f g
   flow_at g there = (lowered.graphs.each n.0 f g at there).flow
-
-  pub is_own : Contains l.source.functions f
-  is_own = found_in l.source.functions n.0 f at
 
   number_is : n ≡ f.id
   number_is = ap (λ (k : ℕ). let m : FunId = record { 0 = k } in m) (sym (lowered.formed.functions n.0 f at))
@@ -78,9 +75,6 @@ module _ (l : Lowering) (lowered : IsLowering l) (n : FunId) (f : Function) (at 
             let (i, j, up, at', from) = h in
             (j.id, (exact j.id).1 (j, (up.2.0, refl), subst (Calls j.act) (sym number_is) up.2.1), (sym at' ∙ (ap (λ (y : Item). y.id.0) (sym up.0) ∙ sym begins), sym from))),
       )
-
-  pub none_above : (t : Table) → BeginsThreads l.source f → AddsAll t t (InRow Item item_number (IsAboveOf l.source f))
-  none_above t threads = none_added t (InRow Item item_number (IsAboveOf l.source f)) (λ k x h. h.2.1 threads)
 
   pub begun_added : (g : ControlFlow) (first : ItemId) (t t' : Table) → slice_get l.graphs n.0 ≡ Some g → first ≡ g.first → Adds t t' first.0 n.0 → AddsAll t t' (InRow Function function_number (IsTheFirst f))
   begun_added g first t t' there is adds =

@@ -3,7 +3,6 @@ use Rattle.std.proofs.Common.{◌≡◌, ◌<◌, ◌≤◌, ◌+◌, ◌-◌, �
 use Rattle.std.specs.Prelude.{Contains, ◌⊎◌, ◌↔◌, ◌==◌}
 use Rattle.std.specs.Global.{Vec}
 use Rattle.std.proofs.lemmas.Bool.Decides.{Decides-eqb}
-use Rattle.std.proofs.lemmas.Option.{slice_get_within}
 use Rattle.std.proofs.lemmas.List.Elements.{Contains-append_left, Contains-append_right, Contains-append_cases}
 use Rattle.ca_tree.specs.declared.numbers.ItemId.{ItemId}
 use Rattle.ca_reach.specs.Reach.{Table, row, rows_of, IsSet, Reached}
@@ -129,9 +128,6 @@ pub none_listed : (t : Table) (starts : List ℕ) (xs : List ItemId) → length 
 none_listed t starts xs none is n = ((λ c. absurd (in_none n (subst (λ l. Contains (numbers_of l) n) is c))), λ r. absurd (none_reached t starts none n r))
 
 -- flags as the list of the items whose numbers they have
-pub set_within : (flags : List Bool) (n : ℕ) → IsSet flags n → n < length flags
-set_within flags n is = slice_get_within flags n true is
-
 abbrev pub IsListOf : List ItemId → List Bool → Type 0
 IsListOf xs flags = (n : ℕ) → n < 4294967296 → Contains (numbers_of xs) n ↔ ((0 ≤ n) × IsSet flags (n - 0))
 
@@ -146,10 +142,6 @@ pub flags_listed : (t : Table) (starts : List ℕ) (flags read : List Bool) (xs 
 flags_listed t starts flags read xs same exact are n fits =
     let at = listed_at xs flags n (subst (IsListOf xs) same are) fits in
     ((λ c. (exact n).0 (at.0 c)), λ r. at.1 ((exact n).1 r))
-
-pub reached_within : (t : Table) (starts : List ℕ) (n : ℕ) → Reached t starts n → n < length t
-reached_within t starts n (Reached.begins c lt) = lt
-reached_within t starts n (Reached.goes r c lt) = lt
 
 row_within : (t : Table) (n m : ℕ) → Contains (row t n) m → n < length t
 row_within [] n m c = absurd (in_none m c)

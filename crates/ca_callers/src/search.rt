@@ -65,6 +65,7 @@ fn items_reached(alloc: Global, back: &[Vec<u32>], starts: &[u32]) -> Result<Vec
     Ok(items)
 }
 
+// Adds numbers at the end of others.
 fn push_all(numbers: &mut Vec<u32>, more: &[u32]) -> Result<(), NoMemory>
     ensures { IfOk result (λ u. numbers.new.items ≡ numbers.old.items ++ more.now) }
 {

@@ -45,6 +45,7 @@ fn add_link(rows: &mut Vec<Vec<u32>>, link: &Link, destroys: bool) -> Result<(),
     Ok(())
 }
 
+// Adds the links of one kind among some.
 fn add_links(rows: &mut Vec<Vec<u32>>, links: &[Link], destroys: bool) -> Result<(), NoMemory>
     ensures length { IfOk result (λ u. length (rows_of rows.new.items) ≡ length (rows_of rows.old.items)) }
     ensures added { IfOk result (λ u. AddsAll (rows_of rows.old.items) (rows_of rows.new.items) (AnyOf ALink links.now (IsLinked destroys))) }
