@@ -4,7 +4,7 @@ use Rattle.std.specs.Prelude.{Contains, ◌⊎◌, ◌↔◌}
 use Rattle.std.proofs.lemmas.List.Elements.{Contains-append_left, Contains-append_right, Contains-append_cases}
 use Rattle.std.proofs.lemmas.Bool.{cases_lt}
 use Rattle.ca_reach.specs.Reach.{Table, row, IsSet, Adds}
-use Rattle.ca_model.proofs.Members.{in_none, in_one, at_head}
+use Rattle.ca_model.proofs.Members.{in_one, at_head}
 use Rattle.ca_flow.specs.declared.links.Link.{Link}
 use Rattle.ca_ahead.specs.Onward.{IsOnward, Grows, Gains, FollowsMarked}
 
@@ -42,16 +42,10 @@ one_more P xs x = (
   (λ e. elim e [ inl h ↦ (h.0, Contains-append_left xs (x ∷ []) h.0 h.1, h.2) | inr is ↦ (x, Contains-append_right xs (x ∷ []) x (at_head x []), is) ]),
 )
 
-pub one_of_none : {A : Type 0} (P : A → Type 0) → OneOf P [] → ⊥
-one_of_none P h = in_none h.0 h.1
-
 pub next_one : {A : Type 0} (P : A → Type 0) (xs : List A) (k : ℕ) (x : A) → k < length xs → x ≡ get_or xs k x → OneOf P (take (k + 1) xs) ↔ (OneOf P (take k xs) ⊎ P x)
 next_one P xs k x lt read = subst (λ ys. OneOf P ys ↔ (OneOf P (take k xs) ⊎ P x)) (sym (taken xs k x lt read)) (one_more P (take k xs) x)
 
 -- ---- rows
-
-pub grows_none : (t : Table) (P : ℕ → ℕ → Type 0) → ((n m : ℕ) → P n m → ⊥) → Grows t t P
-grows_none t P none = (refl, λ n m. ((λ c. inl c), λ e. elim e [ inl c ↦ c | inr h ↦ absurd (none n m h.1) ]))
 
 pub grows_on : (t t' t'' : Table) (P Q R : ℕ → ℕ → Type 0) → Grows t t' P → Grows t' t'' Q → ((n m : ℕ) → R n m ↔ (P n m ⊎ Q n m)) → Grows t t'' R
 grows_on t t' t'' P Q R g h both = (
@@ -95,9 +89,6 @@ passed false h = refl
 
 -- ---- numbers
 
-pub gains_none : (xs : List ℕ) (P : ℕ → Type 0) → ((n : ℕ) → P n → ⊥) → Gains xs xs P
-gains_none xs P none n = ((λ c. inl c), λ e. elim e [ inl c ↦ c | inr h ↦ absurd (none n h) ])
-
 pub gains_on : (xs ys zs : List ℕ) (P Q R : ℕ → Type 0) → Gains xs ys P → Gains ys zs Q → ((n : ℕ) → R n ↔ (P n ⊎ Q n)) → Gains xs zs R
 gains_on xs ys zs P Q R g h both n = (
   (λ c. elim ((h n).0 c) [
@@ -124,9 +115,6 @@ pub gains_every : {A : Type 0} (P : A → ℕ → Type 0) (xs : List A) (k : ℕ
 gains_every P xs k ns ns' past = subst (λ ys. Gains ns ns' (λ n. OneOf (λ y. P y n) ys)) (take_all xs k past)
 
 -- what is behind marked numbers, up to some number
-pub follow_none : (t : Table) (marked : List Bool) (m : ℕ) → Contains [] m ↔ FollowsMarked t marked 0 m
-follow_none t marked m = ((λ c. absurd (in_none m c)), λ h. let lt = h.1 in absurd (omega (arith, lt)))
-
 pub follow_more : (t : Table) (marked : List Bool) (k : ℕ) (xs ys : List ℕ) → ((m : ℕ) → Contains xs m ↔ FollowsMarked t marked k m) → Gains xs ys (λ m. IsSet marked k × Contains (row t k) m)
     → (m : ℕ) → Contains ys m ↔ FollowsMarked t marked (k + 1) m
 follow_more t marked k xs ys before more m = (

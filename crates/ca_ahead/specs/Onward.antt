@@ -31,7 +31,7 @@ Grows t t' P = (length t' ≡ length t) × ((n m : ℕ) → Contains (row t' n) 
 abbrev pub Gains : List ℕ → List ℕ → (ℕ → Type 0) → Type 0
 Gains xs ys P = (n : ℕ) → Contains ys n ↔ (Contains xs n ⊎ P n)
 
--- a marked item leads onward to number m
+-- number m stands in the row of a marked number below a count
 abbrev pub FollowsMarked : Table → List Bool → ℕ → ℕ → Type 0
 FollowsMarked t marked count m = (n : ℕ) × (n < count) × IsSet marked n × Contains (row t n) m
 

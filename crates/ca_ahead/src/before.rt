@@ -1,6 +1,6 @@
 //! The search for all items at once.
 
-ghost use Rattle.std.specs.Prelude.{◌≡◌, ◌≤◌, ◌↔◌, IfOk};
+ghost use Rattle.std.specs.Prelude.{◌≤◌, ◌↔◌, IfOk};
 ghost use Rattle.ca_reach.specs.Reach.{IsSet};
 ghost use Rattle.ca_model.specs.Paths.{Before};
 ghost use Rattle.ca_model.specs.Plans.{IsItem};

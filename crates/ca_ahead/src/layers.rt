@@ -1,6 +1,6 @@
 //! One search for each number of calls gone up.
 
-ghost use Rattle.std.specs.Prelude.{◌≡◌, ◌<◌, ◌↔◌, ◌⊎◌, ℕ, true, Some, length, slice_get, Contains, IfOk};
+ghost use Rattle.std.specs.Prelude.{◌≡◌, ◌<◌, ◌↔◌, true, Some, length, slice_get, Contains, IfOk};
 ghost use Rattle.ca_tree.specs.declared.numbers.ItemId.{ItemId as AnItem};
 ghost use Rattle.ca_model.specs.Paths.{BeginsThreads};
 ghost use Rattle.ca_model.specs.declared.tree.Function.{Function};
