@@ -57,7 +57,8 @@ fn runner_is(rt: &impl Abort, words: &RunnerWords, wanted: Wanted<'_>) {
 }
 
 fn says(rt: &impl Abort, alloc: Global, texts: &[&str], wanted: Wanted<'_>) -> Result<(), Fail> {
-    match read(alloc, texts)? {
+    let found = read(alloc, texts)?;
+    match &found {
         Ok(CommandWords::Run(words)) => {
             assert_eq!(rt; words.name.as_str(), wanted.name);
             assert_eq!(rt; words.plain, wanted.plain);
@@ -180,7 +181,8 @@ fn behind_two_dashes_all_words_are_names(rt: HostRuntime) -> Result<(), Fail> {
 
 #[test]
 fn a_check_names_a_source_and_a_trace(rt: HostRuntime) -> Result<(), Fail> {
-    match read(rt.alloc(), &["check", "a.c", "--plain", "--", "-t.txt"])? {
+    let found = read(rt.alloc(), &["check", "a.c", "--plain", "--", "-t.txt"])?;
+    match &found {
         Ok(CommandWords::Check(words)) => {
             assert_eq!(&rt; words.name.as_str(), "a.c");
             assert_eq!(&rt; words.trace.as_str(), "-t.txt");
@@ -190,10 +192,11 @@ fn a_check_names_a_source_and_a_trace(rt: HostRuntime) -> Result<(), Fail> {
         Ok(_) => assert!(&rt; false),
         Err(_) => assert!(&rt; false),
     }
-    match read(
+    let found = read(
         rt.alloc(),
         &["check", "--limit=5", "a.c", "t.txt", "--only", "1,2"],
-    )? {
+    )?;
+    match &found {
         Ok(CommandWords::Check(words)) => {
             assert!(&rt; !words.plain);
             plan_is(
@@ -214,7 +217,8 @@ fn a_check_names_a_source_and_a_trace(rt: HostRuntime) -> Result<(), Fail> {
 
 #[test]
 fn sites_take_a_depth_and_numbers(rt: HostRuntime) -> Result<(), Fail> {
-    match read(rt.alloc(), &["sites", "--depth", "3", "a.c", "--only=9"])? {
+    let found = read(rt.alloc(), &["sites", "--depth", "3", "a.c", "--only=9"])?;
+    match &found {
         Ok(CommandWords::Sites(words)) => {
             assert_eq!(&rt; words.name.as_str(), "a.c");
             plan_is(
@@ -307,9 +311,10 @@ const REFUSED: [&[&str]; 68] = [
 #[test]
 fn other_words_are_refused(rt: HostRuntime) -> Result<(), Fail> {
     for words in REFUSED {
-        match read(rt.alloc(), words)? {
+        let found = read(rt.alloc(), words)?;
+        match &found {
             Ok(_) => assert!(&rt; false),
-            Err(no) => assert_eq!(&rt; no, WordsNo::Misworded),
+            Err(no) => assert_eq!(&rt; *no, WordsNo::Misworded),
         }
     }
     Ok(())
@@ -329,7 +334,8 @@ fn repeated(alloc: Global, number: &str, count: u32) -> Result<String, Fail> {
 fn a_schedule_has_up_to_100_000_numbers(rt: HostRuntime) -> Result<(), Fail> {
     let alloc = rt.alloc();
     let text = repeated(alloc, "0", 100000)?;
-    match read(alloc, &["run", "--schedule", text.as_str(), "a.c"])? {
+    let found = read(alloc, &["run", "--schedule", text.as_str(), "a.c"])?;
+    match &found {
         Ok(CommandWords::Run(words)) => {
             let count = numbers(&words.runner.schedule).map(|list| list.len());
             assert_eq!(&rt; count, Some(100000));
