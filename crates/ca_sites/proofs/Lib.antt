@@ -1,9 +1,7 @@
-pub mod NotedItems
-pub mod ListedSites
 pub mod TextStatements
-pub mod NotedExpressions
+pub mod NumberedSites
 pub mod TypedLoads
 pub mod LoadsPlaced
-pub mod ActsCounted
-pub mod StatementsCounted
-pub mod ProgramsCounted
+pub mod ActsShown
+pub mod StatementsShown
+pub mod ProgramsShown

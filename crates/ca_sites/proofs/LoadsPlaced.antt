@@ -1,6 +1,7 @@
--- What an expression is has as many sites as the text has places of them.
-use Rattle.std.proofs.Common.{◌≡◌, ◌+◌, false, length, refl, sym, ap, ◌∙◌, subst}
+-- What an expression is has a load for each place of one in the text.
+use Rattle.std.proofs.Common.{◌≡◌, false, [], ◌∷◌, ◌++◌, List, refl, sym, ap, ◌∙◌, subst}
 use Rattle.std.specs.Prelude.{IfSome}
+use Rattle.ca_tree.specs.declared.text.Pos.{Pos}
 use Rattle.ca_tree.specs.declared.tree.Exp.{Exp, roll-Exp, ind-Exp, map-Exp, fold-roll-Exp}
 use Rattle.ca_tree.specs.declared.tree.Exp.TheOpen.{Exp-F}
 use Rattle.ca_model.specs.declared.tree.Target.{Target}
@@ -8,8 +9,7 @@ use Rattle.ca_model.specs.declared.tree.Target.TheVariants as target
 use Rattle.ca_model.specs.declared.types.ObjectType.{ObjectType}
 use Rattle.ca_model.specs.declared.types.Operand.{Operand}
 use Rattle.ca_model.specs.declared.types.Operand.TheVariants as operand
-use Rattle.ca_model.specs.Eval.{access}
-use Rattle.ca_model.specs.Accesses.{kinds, accesses_to}
+use Rattle.ca_model.specs.Accesses.{loads, kinds, accesses_to}
 use Rattle.ca_model.specs.typing.Types.{held}
 use Rattle.ca_model.specs.typing.Values.{also, value_of}
 use Rattle.ca_model.specs.typing.Targets.{target_of}
@@ -19,13 +19,13 @@ use Rattle.ca_model.specs.typing.Operators.{binary}
 use Rattle.ca_model.specs.typing.Expressions.{Judged, both, named, by_unary, chosen, exp_step, judged}
 use Rattle.ca_model.proofs.MissingAnswers.{also_if, also_each, both_if, so_if}
 use Rattle.ca_model.proofs.Equations.{accesses_num, accesses_null}
-use Rattle.ca_sites.specs.TextPlaces.{Sought, valued, sought}
-use Rattle.ca_sites.specs.TextPlaces as text
-use Rattle.ca_sites.specs.LoadPlaces.{ValuesHavePlaces, TargetsHavePlaces}
-use Rattle.ca_sites.proofs.TypedLoads.{Agrees, HasSites, sites_to, value_has, unary_agrees, struct_place_agrees, struct_behind_agrees, chosen_agrees, named_agrees, binary_agrees, indexed_agrees, length_valued}
+use Rattle.ca_sites.specs.TextSites.{Sought, valued, sought}
+use Rattle.ca_sites.specs.TextSites as text
+use Rattle.ca_sites.specs.SiteLaws.{all_loads, ValuesHavePlaces, TargetsHavePlaces}
+use Rattle.ca_sites.proofs.TypedLoads.{Agrees, HasSites, sites_to, value_has, unary_agrees, struct_place_agrees, struct_behind_agrees, chosen_agrees, named_agrees, binary_agrees, indexed_agrees, all_valued}
 
 abbrev Found : Sought → Operand → Type 0
-Found f x = Agrees (length f.within) f.through x
+Found f x = Agrees (all_loads f.within) f.through x
 
 module _ (s : Scope) where
   abbrev Holds : Exp → Type 0
@@ -41,9 +41,9 @@ module _ (s : Scope) where
   Level x = IfSome (exp_step s (map-Exp Exp Judged (judged s) x)).is (Found (text.exp_step (map-Exp Exp Sought sought x)))
 
   each : (x : Exp-F Such) → Level (tree x)
-  each (Exp-F.Number p k) = (ap (λ xs. length (kinds xs)) (accesses_num k), refl)
-  each (Exp-F.Null p) = (ap (λ xs. length (kinds xs)) accesses_null, refl)
-  each (Exp-F.Name x) = also_each (Agrees 0 _) (meaning s x.text) named (λ w. named_agrees w)
+  each (Exp-F.Number p k) = (ap kinds (accesses_num k), refl)
+  each (Exp-F.Null p) = (ap kinds accesses_null, refl)
+  each (Exp-F.Name x) = also_each (Agrees [] _) (meaning s x.text) named (λ w. named_agrees w)
   each (Exp-F.Unary p o a) = also_if (Found (sought a.0)) _ (judged s a.0).is (by_unary o) a.1 (λ x h. unary_agrees (sought a.0) o p x h)
   each (Exp-F.Binary p o a b) =
       also_if (λ (z : Operand × Operand). Found (sought a.0) z.0 × Found (sought b.0) z.1) _ (both (judged s a.0).is (judged s b.0).is) (λ z. binary (field_count s) o z.0 z.1)
@@ -64,21 +64,25 @@ module _ (s : Scope) where
 
 pub values_placed : ValuesHavePlaces
 values_placed s x v is =
-    so_if (HasSites (length (sought x).within + access (sought x).through)) (also (judged s x).is value_of) v is
-    (also_if (Found (sought x)) (HasSites (length (sought x).within + access (sought x).through)) (judged s x).is value_of (operand_found s x) (λ o h. value_has (length (sought x).within) (sought x).through o h))
-    ∙ sym (length_valued (sought x))
+    so_if (HasSites (all_loads (sought x).within ++ kinds (loads (sought x).through))) (also (judged s x).is value_of) v is
+    (also_if (Found (sought x)) (HasSites (all_loads (sought x).within ++ kinds (loads (sought x).through))) (judged s x).is value_of (operand_found s x) (λ o h. value_has (all_loads (sought x).within) (sought x).through o h))
+    ∙ sym (all_valued (sought x))
 
 -- what is assigned to
 abbrev pub AtPlace : Sought → Target → Type 0
-AtPlace f (target.Local x) = (length f.within ≡ 0) × (f.through ≡ false)
-AtPlace f (target.Place p) = (sites_to p ≡ length f.within) × ((accesses_to p).0 ≡ f.through)
+AtPlace f (target.Local x) = (f.within ≡ []) × (f.through ≡ false)
+AtPlace f (target.Place p) = (sites_to p ≡ all_loads f.within) × ((accesses_to p).0 ≡ f.through)
 
 abbrev pub Aimed : Sought → ObjectType × Target → Type 0
 Aimed f z = AtPlace f z.1
 
+no_places : (ps : List Pos) → all_loads ps ≡ [] → ps ≡ []
+no_places [] h = refl
+no_places (p ∷ ps) h = absurd cc
+
 target_placed : (f : Sought) (o : Operand) → Found f o → IfSome (target_of o) (Aimed f)
 target_placed f (operand.Value t a) h = tt
-target_placed f (operand.Local t x) h = h
+target_placed f (operand.Local t x) h = (no_places f.within h.0, h.1)
 target_placed f (operand.Place t p) h = also_each (Aimed f) (held t) _ (λ v. h)
 target_placed f operand.Name h = tt
 

@@ -1,3 +1,3 @@
-pub mod Found
-pub mod TextPlaces
-pub mod LoadPlaces
+pub mod TextSites
+pub mod SiteLists
+pub mod SiteLaws

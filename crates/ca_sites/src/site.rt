@@ -1,13 +1,12 @@
 //! The list of sites.
 
-ghost use Rattle.std.specs.Prelude.{◌≡◌, [], IfOk, get_or, map};
+ghost use Rattle.std.specs.Prelude.{◌≡◌, IfOk, map};
 ghost use Rattle.ca_model.specs.Accesses.{all_sites};
-ghost use Rattle.ca_sites.specs.Found.{first_place, listed, listed_found};
-ghost use Rattle.ca_sites.specs.TextPlaces.{site_places};
+ghost use Rattle.ca_sites.specs.SiteLists.{in_tree, in_list, with_numbers};
+ghost use Rattle.ca_sites.specs.TextSites.{text_sites};
 
-use crate::accesses::Found;
-use crate::items::found_in;
-use crate::statements::places_in;
+use crate::items::TextSite;
+use crate::statements::sites_in;
 use ca_model::Checked;
 use ca_tree::{ItemId, NoMemory, Pos, SiteId};
 use std::alloc::Global;
@@ -33,31 +32,20 @@ pub struct Site {
     pub kind: SiteKind,
 }
 
-// The place at an index.
-fn place_at(places: &[Pos], k: u32) -> Pos
-    ensures { result ≡ get_or places.now k first_place }
-{
-    match places.get(k as usize) {
-        Some(place) => *place,
-        None => Pos { line: 1, column: 1 },
-    }
-}
-
-// Sites with their numbers and places.
-fn numbered(alloc: Global, found: &[Found], places: &[Pos]) -> Result<Vec<Site>, NoMemory>
-    ensures { IfOk result (λ ss. ss.items ≡ listed_found 0 found.now places.now) }
+// Sites with their numbers.
+fn numbered(alloc: Global, shown: &[TextSite]) -> Result<Vec<Site>, NoMemory>
+    ensures { IfOk result (λ ss. ss.items ≡ with_numbers 0 shown.now) }
 {
     let mut sites = Vec::new(alloc);
-    let mut k = 0;
-    'found: for one in found {
-        let pos = place_at(places, k);
+    let mut k = 0u32;
+    'shown: for one in shown {
         let Some(number) = k.checked_add(1) else {
             return Err(NoMemory);
         };
         sites.push(Site {
             id: SiteId(number),
             item: one.item,
-            pos,
+            pos: one.pos,
             kind: one.kind,
         })?;
         k = number;
@@ -66,15 +54,15 @@ fn numbered(alloc: Global, found: &[Found], places: &[Pos]) -> Result<Vec<Site>,
 }
 
 /// The sites of a source, in order of item and evaluation, and numbered from 1: each assertion, each load, store or `free`
-/// through a pointer or an index, and each lock. An access to a named global, or to its field by a dot, is none. The only
-/// error is want of memory, which is also the answer where there are more sites than numbers of 32 bits. It takes time in
-/// the length of the source: one pass over its typed tree and one over its text's.
+/// through a pointer or an index, and each lock. An access to a named global, or to its field by a dot, is none. They are
+/// the sites of the typed tree, in order, each with its item and its kind; and they are the sites in the text, each with
+/// its item, its kind and its place. The only error is want of memory, which is also the answer where there are more sites
+/// than numbers of 32 bits. It takes time in the length of the source: one pass over its text's tree.
 pub fn sites(alloc: Global, checked: &Checked) -> Result<Vec<Site>, NoMemory>
-    ensures sites { IfOk result (λ ss. ss.items ≡ listed 0 (all_sites checked.now.typed) (site_places checked.now.program)) }
-    ensures places { IfOk result (λ ss. map (λ s. s.pos) ss.items ≡ site_places checked.now.program) }
+    ensures tree { IfOk result (λ ss. map in_list ss.items ≡ map in_tree (all_sites checked.now.typed)) }
+    ensures text { IfOk result (λ ss. ss.items ≡ with_numbers 0 (text_sites checked.now.program)) }
 {
-    let found = found_in(alloc, checked)?;
-    let places = places_in(alloc, checked.program())?;
-    let list = numbered(alloc, &found, &places)?;
+    let shown = sites_in(alloc, checked.program())?;
+    let list = numbered(alloc, &shown)?;
     Ok(list)
 }

@@ -1,146 +1,152 @@
-//! The places of the sites in the statements of a program.
+//! The sites in the text of a program.
 
 ghost use Rattle.std.specs.Prelude.{◌≡◌, ◌++◌, IfOk};
-ghost use Rattle.ca_sites.specs.TextPlaces.{first_places, step_places, head_places, declarators_places, locals_places, stmt_places, stmts_places, body_places, top_places, site_places};
+ghost use Rattle.ca_sites.specs.TextSites.{first_sites, step_sites, head_sites, declarator_sites, declarators_sites, locals_sites, stmt_sites, stmts_sites, body_sites, top_sites, text_sites};
 
-use crate::places::{right_if_written, simple, value, value_if_written};
+use crate::items::{TextSite, right_if_written, simple, value, value_if_written};
+use ca_tree::NoMemory;
 use ca_tree::tree::{
     Body, ForFirst, ForHead, ItemAt, LocalDeclarator, Locals, Program, Simple, Stmt, Top,
 };
-use ca_tree::{NoMemory, Pos};
 use std::alloc::Global;
 
-fn declarators(ds: &[LocalDeclarator], places: &mut Vec<Pos>) -> Result<(), NoMemory>
-    ensures { IfOk result (λ u. places.new.items ≡ places.old.items ++ declarators_places ds.now) }
+fn declarator(d: &LocalDeclarator, sites: &mut Vec<TextSite>) -> Result<(), NoMemory>
+    ensures { IfOk result (λ u. sites.new.items ≡ sites.old.items ++ declarator_sites d.now) }
+{
+    right_if_written(&d.value, d.item.id, sites)
+}
+
+fn declarators(ds: &[LocalDeclarator], sites: &mut Vec<TextSite>) -> Result<(), NoMemory>
+    ensures { IfOk result (λ u. sites.new.items ≡ sites.old.items ++ declarators_sites ds.now) }
 {
     'each: for d in ds {
-        right_if_written(&d.value, places)?;
+        declarator(d, sites)?;
     }
     Ok(())
 }
 
-fn locals(of: &Locals, places: &mut Vec<Pos>) -> Result<(), NoMemory>
-    ensures { IfOk result (λ u. places.new.items ≡ places.old.items ++ locals_places of.now) }
+fn locals(of: &Locals, sites: &mut Vec<TextSite>) -> Result<(), NoMemory>
+    ensures { IfOk result (λ u. sites.new.items ≡ sites.old.items ++ locals_sites of.now) }
 {
     match of {
         Locals::Threads(_) => Ok(()),
-        Locals::Variables(_, ds) => declarators(ds.as_slice(), places),
+        Locals::Variables(_, ds) => declarators(ds.as_slice(), sites),
     }
 }
 
-fn first(of: &Option<ForFirst>, places: &mut Vec<Pos>) -> Result<(), NoMemory>
-    ensures { IfOk result (λ u. places.new.items ≡ places.old.items ++ first_places of.now) }
+fn first(of: &Option<ForFirst>, sites: &mut Vec<TextSite>) -> Result<(), NoMemory>
+    ensures { IfOk result (λ u. sites.new.items ≡ sites.old.items ++ first_sites of.now) }
 {
     match of {
         None => Ok(()),
-        Some(ForFirst::Simple(item, a)) => simple(a, item.pos, places),
-        Some(ForFirst::Local(_, d)) => right_if_written(&d.value, places),
+        Some(ForFirst::Simple(item, a)) => simple(a, *item, sites),
+        Some(ForFirst::Local(_, d)) => declarator(d, sites),
     }
 }
 
-fn step(of: &Option<(ItemAt, Simple)>, places: &mut Vec<Pos>) -> Result<(), NoMemory>
-    ensures { IfOk result (λ u. places.new.items ≡ places.old.items ++ step_places of.now) }
+fn step(of: &Option<(ItemAt, Simple)>, sites: &mut Vec<TextSite>) -> Result<(), NoMemory>
+    ensures { IfOk result (λ u. sites.new.items ≡ sites.old.items ++ step_sites of.now) }
 {
     match of {
         None => Ok(()),
-        Some((item, a)) => simple(a, item.pos, places),
+        Some((item, a)) => simple(a, *item, sites),
     }
 }
 
-fn head(of: &ForHead, places: &mut Vec<Pos>) -> Result<(), NoMemory>
-    ensures { IfOk result (λ u. places.new.items ≡ places.old.items ++ head_places of.now) }
+fn head(of: &ForHead, sites: &mut Vec<TextSite>) -> Result<(), NoMemory>
+    ensures { IfOk result (λ u. sites.new.items ≡ sites.old.items ++ head_sites of.now) }
 {
-    first(&of.first, places)?;
-    value_if_written(&of.condition, places)?;
-    step(&of.step, places)
+    first(&of.first, sites)?;
+    value_if_written(&of.condition, of.item.id, sites)?;
+    step(&of.step, sites)
 }
 
 #[cycle(statement)]
-fn statement(stmt: &Stmt, places: &mut Vec<Pos>) -> Result<(), NoMemory>
-    ensures { IfOk result (λ u. places.new.items ≡ places.old.items ++ stmt_places stmt.now) }
+fn statement(stmt: &Stmt, sites: &mut Vec<TextSite>) -> Result<(), NoMemory>
+    ensures { IfOk result (λ u. sites.new.items ≡ sites.old.items ++ stmt_sites stmt.now) }
 {
     match stmt {
         Stmt::Block(stmts) => {
-            statements(stmts.as_slice(), places)?;
+            statements(stmts.as_slice(), sites)?;
             Ok(())
         }
         Stmt::Locals(of) => {
-            locals(of, places)?;
+            locals(of, sites)?;
             Ok(())
         }
         Stmt::Empty | Stmt::Break(_) | Stmt::Continue(_) => Ok(()),
         Stmt::Simple(item, of) => {
-            simple(of, item.pos, places)?;
+            simple(of, *item, sites)?;
             Ok(())
         }
-        Stmt::Return(_, e) => {
-            value_if_written(e, places)?;
+        Stmt::Return(item, e) => {
+            value_if_written(e, item.id, sites)?;
             Ok(())
         }
-        Stmt::If(_, e, yes, no) => {
-            value(e, places)?;
-            statement(yes.get(), places)?;
+        Stmt::If(item, e, yes, no) => {
+            value(e, item.id, sites)?;
+            statement(yes.get(), sites)?;
             match no {
                 Some(no) => {
-                    statement(no.get(), places)?;
+                    statement(no.get(), sites)?;
                     Ok(())
                 }
                 None => Ok(()),
             }
         }
-        Stmt::While(_, e, body) => {
-            value(e, places)?;
-            statement(body.get(), places)?;
+        Stmt::While(item, e, body) => {
+            value(e, item.id, sites)?;
+            statement(body.get(), sites)?;
             Ok(())
         }
-        Stmt::Do(body, _, e) => {
-            statement(body.get(), places)?;
-            value(e, places)?;
+        Stmt::Do(body, item, e) => {
+            statement(body.get(), sites)?;
+            value(e, item.id, sites)?;
             Ok(())
         }
         Stmt::For(of, body) => {
-            head(of, places)?;
-            statement(body.get(), places)?;
+            head(of, sites)?;
+            statement(body.get(), sites)?;
             Ok(())
         }
     }
 }
 
 #[cycle(statement)]
-fn statements(stmts: &[Stmt], places: &mut Vec<Pos>) -> Result<(), NoMemory>
-    ensures { IfOk result (λ u. places.new.items ≡ places.old.items ++ stmts_places stmts.now) }
+fn statements(stmts: &[Stmt], sites: &mut Vec<TextSite>) -> Result<(), NoMemory>
+    ensures { IfOk result (λ u. sites.new.items ≡ sites.old.items ++ stmts_sites stmts.now) }
 {
     for stmt in stmts {
-        statement(stmt, places)?;
+        statement(stmt, sites)?;
     }
     Ok(())
 }
 
-fn body(of: &Option<Body>, places: &mut Vec<Pos>) -> Result<(), NoMemory>
-    ensures { IfOk result (λ u. places.new.items ≡ places.old.items ++ body_places of.now) }
+fn body(of: &Option<Body>, sites: &mut Vec<TextSite>) -> Result<(), NoMemory>
+    ensures { IfOk result (λ u. sites.new.items ≡ sites.old.items ++ body_sites of.now) }
 {
     match of {
         None => Ok(()),
-        Some(of) => statements(of.statements.as_slice(), places),
+        Some(of) => statements(of.statements.as_slice(), sites),
     }
 }
 
-fn top(of: &Top, places: &mut Vec<Pos>) -> Result<(), NoMemory>
-    ensures { IfOk result (λ u. places.new.items ≡ places.old.items ++ top_places of.now) }
+fn top(of: &Top, sites: &mut Vec<TextSite>) -> Result<(), NoMemory>
+    ensures { IfOk result (λ u. sites.new.items ≡ sites.old.items ++ top_sites of.now) }
 {
     match of {
-        Top::Function(f) => body(&f.body, places),
+        Top::Function(f) => body(&f.body, sites),
         Top::Struct(_) | Top::Globals(_) => Ok(()),
     }
 }
 
-/// The places of the sites of a program, in order of item and evaluation.
-pub(crate) fn places_in(alloc: Global, program: &Program) -> Result<Vec<Pos>, NoMemory>
-    ensures { IfOk result (λ ps. ps.items ≡ site_places program.now) }
+/// The sites in the text of a program, in order of item and evaluation.
+pub(crate) fn sites_in(alloc: Global, program: &Program) -> Result<Vec<TextSite>, NoMemory>
+    ensures { IfOk result (λ ss. ss.items ≡ text_sites program.now) }
 {
-    let mut places = Vec::new(alloc);
+    let mut sites = Vec::new(alloc);
     'tops: for of in program.tops.as_slice() {
-        top(of, &mut places)?;
+        top(of, &mut sites)?;
     }
-    Ok(places)
+    Ok(sites)
 }

@@ -1,6 +1,6 @@
 use Rattle.std.proofs.Common.{◌≡◌, ◌++◌, drop}
-use Rattle.ca_sites.specs.TextPlaces.{stmts_places}
+use Rattle.ca_sites.specs.TextSites.{stmts_sites}
 use Rattle.ca_sites.proofs.statements.+statement.Given as goal
 
 abbrev pub invariant-statements-loop-stmt : goal.invariant-statements-loop-stmt
-invariant-statements-loop-stmt l = l.places.items ++ stmts_places (drop l.stmt-index l.fn.stmts) ≡ l.fn.places.items ++ stmts_places l.fn.stmts
+invariant-statements-loop-stmt l = l.sites.items ++ stmts_sites (drop l.stmt-index l.fn.stmts) ≡ l.fn.sites.items ++ stmts_sites l.fn.stmts

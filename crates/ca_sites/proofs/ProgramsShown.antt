@@ -1,8 +1,9 @@
--- A program in which nothing is wrong has as many sites as the text has places for them.
-use Rattle.std.proofs.Common.{◌≡◌, ℕ, zero, suc, ◌+◌, Bool, true, false, List, [], ◌∷◌, ◌++◌, map, length, length-append, Option, Some, None, arith, refl, sym, ap, ◌∙◌, subst}
+-- A program in which nothing is wrong has the sites that its text shows.
+use Rattle.std.proofs.Common.{◌≡◌, ℕ, zero, suc, ◌+◌, Bool, true, false, List, [], ◌∷◌, ◌++◌, map, length, Option, Some, None, refl, sym, ap, ◌∙◌, subst, append-nil, append_assoc}
 use Rattle.std.specs.Prelude.{slice_get, nat_lt, if◌then◌else◌}
 use Rattle.std.specs.Option.{is_some}
 use Rattle.std.specs.List.{AllByRecursion}
+use Rattle.std.proofs.lemmas.List.{map-append}
 use Rattle.ca_tree.specs.declared.tree.Name.{Name}
 use Rattle.ca_tree.specs.declared.tree.Parameter.{Parameter}
 use Rattle.ca_tree.specs.declared.tree.ResultType.{ResultType}
@@ -24,7 +25,7 @@ use Rattle.ca_model.specs.declared.types.ObjectType.{ObjectType}
 use Rattle.ca_model.specs.declared.types.Meaning.{Meaning}
 use Rattle.ca_model.specs.declared.types.Meaning.TheVariants as means
 use Rattle.ca_model.specs.Codes.{Typed}
-use Rattle.ca_model.specs.Accesses.{act_accesses, sites_after, sites_in, all_sites}
+use Rattle.ca_model.specs.Accesses.{Access, At_site, Named_load, Named_store, Allocates, act_accesses, sites_after, sites_in, all_sites}
 use Rattle.ca_model.specs.Sites.{items_in_all, items_of, all_items}
 use Rattle.ca_model.specs.typing.Scopes.{Signature, FunctionOf, Scope, Context, find}
 use Rattle.ca_model.specs.typing.Bodies.{Inside, Told, in_order}
@@ -38,7 +39,6 @@ use Rattle.ca_model.specs.typing.Globals.{with_mutex, with_thread, with_variable
 use Rattle.ca_model.specs.typing.Programs.{with_top, definitions, at_start, known}
 use Rattle.ca_model.specs.typing.Typing.{IsTyping}
 use Rattle.ca_model.proofs.Members.{in_none}
-use Rattle.ca_model.proofs.SiteNumbers.{count_after}
 use Rattle.ca_model.proofs.MissingAnswers.{if_so}
 use Rattle.ca_model.proofs.TypesThere.{type_there_over, parameter_there}
 use Rattle.ca_model.proofs.EmptyFaults.{none_in}
@@ -49,9 +49,10 @@ use Rattle.ca_model.proofs.GlobalsKnown.{struct_goes, globals_go}
 use Rattle.ca_model.proofs.SignaturesKnown.{declares}
 use Rattle.ca_model.proofs.DeclarationsKnown.{clean, Belongs, function_goes, top_keeps}
 use Rattle.ca_model.proofs.DefinitionsFound.{names, belong, globals_add_none}
-use Rattle.ca_sites.specs.TextPlaces.{body_places, tops_places, site_places}
-use Rattle.ca_sites.proofs.ActsCounted.{AllThere, Signed}
-use Rattle.ca_sites.proofs.StatementsCounted.{sites_of, sites_append, Here, here_declared, Well, Tells, nothing_tells, then_at, body_tells}
+use Rattle.ca_sites.specs.TextSites.{body_sites, tops_sites, text_sites}
+use Rattle.ca_sites.specs.SiteLists.{kind_of, in_tree, in_text}
+use Rattle.ca_sites.proofs.ActsShown.{AllThere, Signed, sites_among, shown, shown_both, both_same}
+use Rattle.ca_sites.proofs.StatementsShown.{of_items, items_append, Here, here_declared, Well, Tells, nothing_tells, then_at, body_tells}
 
 -- ---- signatures
 
@@ -118,14 +119,14 @@ named_structs : (c : Inside) (x : Option Name) (u : Option ObjectType) → (with
 named_structs c None u = refl
 named_structs c (Some x) u = structs_by (nat_lt c.count most_locals) c _
 
-parameters_tell : (u : Scope) (ps : List Parameter) (c : Inside) → Here c → c.context.scope.structs ≡ u.structs → parameter_faults u ps ≡ [] → Tells (in_order a_parameter ps c) 0
+parameters_tell : (u : Scope) (ps : List Parameter) (c : Inside) → Here c → c.context.scope.structs ≡ u.structs → parameter_faults u ps ≡ [] → Tells (in_order a_parameter ps c) []
 parameters_tell u [] c h same none = nothing_tells c h
 parameters_tell u (a ∷ ps) c h same none =
     let parts = none_in (of_parameter_faults u a.of) (parameter_faults u ps) none in
-    then_at (a_parameter c a) (in_order a_parameter ps) 0 0 (λ clean. record { behind = named_here c a.name (parameter_type c.context.scope a) h (parameter_there c.context.scope u a.of same parts.0); counts = refl })
+    then_at (a_parameter c a) (in_order a_parameter ps) [] [] (λ clean. record { behind = named_here c a.name (parameter_type c.context.scope a) h (parameter_there c.context.scope u a.of same parts.0); shows = refl })
     (λ w. parameters_tell u ps (a_parameter c a).behind w.behind (named_structs c a.name (parameter_type c.context.scope a) ∙ same) parts.1)
 
-a_body_tells : {words : Words} {n m : Totals} {b : Option Body} → IsBody words n b m → (c : Inside) → Here c → Tells (body_told c b) (length (body_places b))
+a_body_tells : {words : Words} {n m : Totals} {b : Option Body} → IsBody words n b m → (c : Inside) → Here c → Tells (body_told c b) (body_sites b)
 a_body_tells tree.no_body c h = nothing_tells c h
 a_body_tells {words = words} (tree.a_body few all room) c h = body_tells words all c h
 
@@ -146,24 +147,23 @@ begun_here all l r s signed gives = record {
 }
 
 function_tells : {words : Words} {n m : Totals} (u : Scope) (c : Context) (f : Function) → IsBody words n f.body m → Here (begun c (result_type c.scope f.result)) → c.scope.structs ≡ u.structs → parameter_faults u f.parameters ≡ []
-    → Tells (told_in c f) (0 + length (body_places f.body))
+    → Tells (told_in c f) (body_sites f.body)
 function_tells u c f is h same none =
     let start : Inside = begun c (result_type c.scope f.result) in
-    then_at (parameters_told start f.parameters) (λ d. body_told d f.body) 0 (length (body_places f.body)) (parameters_tell u f.parameters start h same none)
+    then_at (parameters_told start f.parameters) (λ d. body_told d f.body) [] (body_sites f.body) (parameters_tell u f.parameters start h same none)
     (λ w. a_body_tells is (parameters_told start f.parameters).behind w.behind)
 
-functions_count : (i parameters : ℕ) (x : Told) (b : Option Body) → Well x (0 + length (body_places b)) → sites_of (all_items (functions_of i parameters x b)) ≡ length (body_places b)
-functions_count i parameters x None w = refl
-functions_count i parameters x (Some b) w =
+functions_show : (i parameters : ℕ) (x : Told) (b : Option Body) → Well x (body_sites b) → of_items (all_items (functions_of i parameters x b)) ≡ shown (body_sites b)
+functions_show i parameters x None w = refl
+functions_show i parameters x (Some b) w =
     let f = typed_function i parameters x b in
-    let a = sites_append (items_of f) [] in
-    let d = sites_append (items_in_all x.stmts) (f.close ∷ []) in
-    let g = w.counts in omega (arith, a, d, g)
+    ap of_items (append-nil (items_of f)) ∙ (items_append (items_in_all x.stmts) (f.close ∷ []) ∙ (append-nil (of_items (items_in_all x.stmts)) ∙ w.shows))
 
-items_joined : (fs gs : List TypedFunction) → sites_of (all_items (fs ++ gs)) ≡ sites_of (all_items fs) + sites_of (all_items gs)
-items_joined [] gs = omega arith
+items_joined : (fs gs : List TypedFunction) → of_items (all_items (fs ++ gs)) ≡ of_items (all_items fs) ++ of_items (all_items gs)
+items_joined [] gs = refl
 items_joined (f ∷ fs) gs =
-    let h = items_joined fs gs in let a = sites_append (items_of f) (all_items (fs ++ gs)) in let b = sites_append (items_of f) (all_items fs) in omega (arith, h, a, b)
+    items_append (items_of f) (all_items (fs ++ gs)) ∙ (ap (λ l. of_items (items_of f) ++ l) (items_joined fs gs)
+    ∙ (sym (append_assoc (of_items (items_of f)) (of_items (all_items fs)) (of_items (all_items gs))) ∙ ap (λ l. l ++ of_items (all_items gs)) (sym (items_append (items_of f) (all_items fs)))))
 
 no_result_fault : (k : Known) (f : Function) → (with_function k f).faults ≡ [] → result_faults k.context.scope f.result ≡ []
 no_result_fault k f none =
@@ -177,17 +177,17 @@ no_result_fault k f none =
 -- ---- programs
 
 module _ (words : Words) (all : List (List ℕ)) where
-  functions_counted : {n m : Totals} (xs : List Top) → AreTops words n xs m → AllByRecursion (Belongs all) xs → (k : Known) → Sound all k → Signed k.context.functions → (with_each with_top k xs).faults ≡ []
-      → sites_of (all_items (with_each with_top k xs).functions) ≡ sites_of (all_items k.functions) + length (tops_places xs)
-  functions_counted [] tree.no_top ok k s signed none = omega arith
-  functions_counted (top.Struct a ∷ xs) (tree.one_top is more) ok k s signed none =
+  functions_shown : {n m : Totals} (xs : List Top) → AreTops words n xs m → AllByRecursion (Belongs all) xs → (k : Known) → Sound all k → Signed k.context.functions → (with_each with_top k xs).faults ≡ []
+      → of_items (all_items (with_each with_top k xs).functions) ≡ of_items (all_items k.functions) ++ shown (tops_sites xs)
+  functions_shown [] tree.no_top ok k s signed none = sym (append-nil (of_items (all_items k.functions)))
+  functions_shown (top.Struct a ∷ xs) (tree.one_top is more) ok k s signed none =
       let here = each_keeps_faults with_top top_keeps xs (with_struct k a) none in
-      functions_counted xs more ok.1 (with_struct k a) ((struct_goes all k a here).sound s) signed none
-  functions_counted (top.Globals a ∷ xs) (tree.one_top is more) ok k s signed none =
+      functions_shown xs more ok.1 (with_struct k a) ((struct_goes all k a here).sound s) signed none
+  functions_shown (top.Globals a ∷ xs) (tree.one_top is more) ok k s signed none =
       let here = each_keeps_faults with_top top_keeps xs (with_globals k a) none in
-      functions_counted xs more ok.1 (with_globals k a) ((globals_go all k a here).sound s) (subst Signed (sym (globals_same k a)) signed) none
-      ∙ ap (λ fs. sites_of (all_items fs) + length (tops_places xs)) (globals_add_none k a)
-  functions_counted (top.Function f ∷ xs) (tree.one_top (tree.a_function is) more) ok k s signed none =
+      functions_shown xs more ok.1 (with_globals k a) ((globals_go all k a here).sound s) (subst Signed (sym (globals_same k a)) signed) none
+      ∙ ap (λ fs. of_items (all_items fs) ++ shown (tops_sites xs)) (globals_add_none k a)
+  functions_shown (top.Function f ∷ xs) (tree.one_top (tree.a_function is) more) ok k s signed none =
       let l : Known = with_function k f in
       let here = each_keeps_faults with_top top_keeps xs l none in
       let c = clean k f here in
@@ -197,11 +197,10 @@ module _ (words : Words) (all : List (List ℕ)) where
       let signed' = function_signed k.context f signed c.parameters in
       let gives = result_there l.context.scope k.context.scope f.result same (no_result_fault k f here) in
       let well = function_tells k.context.scope l.context f is.is_body (begun_here all l (result_type l.context.scope f.result) known_there signed' gives) same c.parameters c.told in
-      let new = functions_count (length k.functions) (length f.parameters) (told_in l.context f) f.body well in
-      let rest = functions_counted xs more ok.1 l known_there signed' none in
-      let joined = items_joined k.functions (functions_of (length k.functions) (length f.parameters) (told_in l.context f) f.body) in
-      let text = length-append (body_places f.body) (tops_places xs) in
-      omega (arith, new, rest, joined, text)
+      let new : List TypedFunction = functions_of (length k.functions) (length f.parameters) (told_in l.context f) f.body in
+      functions_shown xs more ok.1 l known_there signed' none
+      ∙ (ap (λ us. us ++ shown (tops_sites xs)) (items_joined k.functions new ∙ ap (λ us. of_items (all_items k.functions) ++ us) (functions_show (length k.functions) (length f.parameters) (told_in l.context f) f.body well))
+      ∙ (append_assoc (of_items (all_items k.functions)) (shown (body_sites f.body)) (shown (tops_sites xs)) ∙ ap (λ us. of_items (all_items k.functions) ++ us) (sym (shown_both (body_sites f.body) (tops_sites xs)))))
 
 start_sound : (p : Program) → Sound (names (definitions p.tops)) (at_start p)
 start_sound p = record { names = λ x w at. absurd (no_name x w at); functions = λ i f at. absurd (no_function i f at); fields = tt; starts = λ g at. absurd (in_none g at); all = refl }
@@ -212,15 +211,23 @@ start_sound p = record { names = λ x w at. absurd (no_name x w at); functions =
     no_function : (i : ℕ) (f : FunctionOf) → slice_get [] i ≡ Some f → ⊥
     no_function i f at = cc
 
-program_counted : (words : Words) (p : Program) → IsProgramOf words p → (known p).faults ≡ [] → sites_of (all_items (known p).functions) ≡ length (site_places p)
-program_counted words p is none =
-    let h = functions_counted words (names (definitions p.tops)) p.tops is.1 (belong p.tops (names (definitions p.tops)) (λ x h. h)) (at_start p) (start_sound p) tt none in omega (arith, h)
+program_shown : (words : Words) (p : Program) → IsProgramOf words p → (known p).faults ≡ [] → of_items (all_items (known p).functions) ≡ shown (text_sites p)
+program_shown words p is none = functions_shown words (names (definitions p.tops)) p.tops is.1 (belong p.tops (names (definitions p.tops)) (λ x h. h)) (at_start p) (start_sound p) tt none
 
-sites_counted : (is : List Item) → length (sites_in is) ≡ sites_of is
-sites_counted [] = refl
-sites_counted (i ∷ is) =
-    let a = length-append (sites_after i [] (act_accesses i.act)) (sites_in is) in let b = count_after i [] (act_accesses i.act) in let h = sites_counted is in omega (arith, a, b, h)
+-- ---- the list of sites of a typed tree
 
-pub places_counted : (words : Words) (p : Program) (t : Typed) → IsProgramOf words p → IsTyping p t → length (site_places p) ≡ length (all_sites t)
-places_counted words p t is typing =
-    subst (λ (u : Typed). length (site_places p) ≡ length (all_sites u)) (sym typing.is) (sym (sites_counted (all_items (known p).functions) ∙ program_counted words p is typing.sound))
+sites_among_item : (i : Item) (done more : List Access) → map in_tree (sites_after i done more) ≡ sites_among i.id more
+sites_among_item i done [] = refl
+sites_among_item i done (At_site k ∷ more) = ap (λ l. (i.id, kind_of k) ∷ l) (sites_among_item i (done ++ (At_site k ∷ [])) more)
+sites_among_item i done (Named_load ∷ more) = sites_among_item i (done ++ (Named_load ∷ [])) more
+sites_among_item i done (Named_store ∷ more) = sites_among_item i (done ++ (Named_store ∷ [])) more
+sites_among_item i done (Allocates ∷ more) = sites_among_item i (done ++ (Allocates ∷ [])) more
+
+sites_of_items : (is : List Item) → map in_tree (sites_in is) ≡ of_items is
+sites_of_items [] = refl
+sites_of_items (i ∷ is) =
+    map-append in_tree (sites_after i [] (act_accesses i.act)) (sites_in is) ∙ both_same _ _ (sites_among i.id (act_accesses i.act)) (of_items is) (sites_among_item i [] (act_accesses i.act)) (sites_of_items is)
+
+pub text_shows : (words : Words) (p : Program) (t : Typed) → IsProgramOf words p → IsTyping p t → map in_tree (all_sites t) ≡ map in_text (text_sites p)
+text_shows words p t is typing =
+    ap (λ (u : Typed). map in_tree (all_sites u)) typing.is ∙ (sites_of_items (all_items (known p).functions) ∙ program_shown words p is typing.sound)
