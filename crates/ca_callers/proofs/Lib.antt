@@ -5,3 +5,5 @@ pub mod Layers
 pub mod Marking
 pub mod MarkedPoints
 pub mod SitePoints
+pub mod Sharing
+pub mod InRuns

@@ -1,6 +1,6 @@
 //! What stands before items through callers, and the points of sites.
 
-ghost use Rattle.std.specs.Prelude.{◌≡◌, ◌<◌, ◌≤◌, ◌+◌, ◌↔◌, map, Contains, IfOk};
+ghost use Rattle.std.specs.Prelude.{◌≡◌, ◌<◌, ◌≤◌, ◌+◌, ◌↔◌, ℕ, map, Contains, IfOk, MatchOption};
 ghost use Rattle.std.specs.List.Sorted.{IsStrictlyIncreasing};
 ghost use Rattle.ca_tree.specs.declared.numbers.ItemId.{ItemId as AnItem};
 ghost use Rattle.ca_tree.specs.declared.numbers.FunId.{FunId as AFun};
@@ -10,11 +10,12 @@ ghost use Rattle.ca_model.specs.Accesses.{Site};
 ghost use Rattle.ca_model.specs.Paths.{Before, PointAfter, PointAtEntry};
 ghost use Rattle.ca_model.specs.Plans.{IsItem, IsSite};
 ghost use Rattle.ca_callers.specs.Callers.{AreMarks, ForOne};
+ghost use Rattle.ca_callers.specs.Runs.{IsInRun, IsOnly};
 
 use crate::search::{Marks, functions, layer, no_marks, numbers};
 use crate::tables::{Tables, make_tables};
 use ca_flow::{Code, Points};
-use ca_reach::items_at;
+use ca_reach::{items_at, row};
 use ca_tree::{ItemId, Listed, NoMemory, SiteId};
 use std::alloc::Global;
 use std::marker::Model;
@@ -40,6 +41,21 @@ impl Model for Callers {
     ghost view = { λ c. c.code.value.source };
 
     ghost invariant = { λ c. AreTables c.code.value.source c.tables };
+}
+
+// The number that a row has, where it has one alone.
+fn only_in(numbers: &[u32]) -> Option<u32>
+    ensures { MatchOption result ((n : ℕ) → IsOnly numbers.now n → ⊥) (λ n. IsOnly numbers.now n) }
+{
+    let Some(first) = numbers.first() else {
+        return None;
+    };
+    'numbers: for n in numbers {
+        if *n != *first {
+            return None;
+        }
+    }
+    Some(*first)
 }
 
 impl Callers {
@@ -68,6 +84,24 @@ impl Callers {
             starts = layer(alloc, &self.tables, &mut marks, &starts, last)?;
         }
         Ok(marks)
+    }
+
+    /// The item before another one in a straight run, if there is one: it alone is linked to the other one and doesn't
+    /// destroy, and no function begins with the other one. The points of both are the same. It takes no memory, and time in
+    /// the links to the item.
+    pub fn before_in_run(&self, item: ItemId) -> Option<ItemId>
+        ensures { (i : Item) → IsItem self.now i item → MatchOption result ((j : Item) → IsInRun self.now i j → ⊥) (λ n. (j : Item) × IsItem self.now j n × IsInRun self.now i j) }
+    {
+        if !row(&self.tables.stops, item.0).is_empty() {
+            return None;
+        }
+        if !row(&self.tables.begun, item.0).is_empty() {
+            return None;
+        }
+        let Some(number) = only_in(row(&self.tables.back, item.0)) else {
+            return None;
+        };
+        Some(ItemId(number))
     }
 
     /// What stands before some items of the source, through up to so many callers: the items on the backward paths of at

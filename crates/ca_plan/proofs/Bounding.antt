@@ -22,6 +22,10 @@ use Rattle.ca_plan.proofs.Setting.{Fit}
 pub items_read : (q p : Typed) → q ≡ p → (from : List ItemId) → AreItems p from → AreItems q from
 items_read q p is from are = subst (λ (t : Typed). AreItems t from) (sym is) are
 
+-- what is found by the links of a source
+pub points_read : (q p : Typed) → q ≡ p → (depth : ℕ) (from : List ItemId) (r : Points) → ArePoints q depth from r → ArePoints p depth from r
+points_read q p is depth from r are = subst (λ (t : Typed). ArePoints t depth from r) is are
+
 all_numbers : (A N : Type 0) (number : A → N) (size : N → ℕ) (xs read : List N) (R : A → Type 0) → read ≡ xs → Fit N size read → ((x : A) → R x → size (number x) < 4294967296)
     → ((n : N) → size n < 4294967296 → Contains xs n ↔ ((x : A) × (number x ≡ n) × R x)) → (n : N) → Contains xs n ↔ ((x : A) × (number x ≡ n) × R x)
 all_numbers A N number size xs read R same fit small exact n = (

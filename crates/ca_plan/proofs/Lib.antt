@@ -4,3 +4,8 @@ pub mod Taking
 pub mod Setting
 pub mod Assembling
 pub mod Bounding
+pub mod OneTable
+pub mod RunHeads
+pub mod PlacesOfItems
+pub mod FoundPoints
+pub mod TableRows

@@ -10,55 +10,17 @@ ghost use Rattle.ca_model.specs.WellFormed.{IsWellFormed};
 ghost use Rattle.ca_plan.specs.declared.options.PlanNo.TheVariants as plan_no;
 ghost use Rattle.ca_plan.specs.Planning.{options_of, named, AreSiteNumbers, IsFirstNoSite, AreItems, ArePoints};
 
-use crate::acquiring::{acquiring, read_items};
+use crate::acquiring::acquiring;
 use crate::named::{first_no_site, named};
 use crate::options::{PlanNo, PlanOptions};
+use crate::points::{formed, points};
 use crate::taken::{items_of, taken};
 use ca_callers::Callers;
 use ca_flow::{Code, Points};
 use ca_lower::lower;
 use ca_model::{Checked, Plan, the_empty_plan_is_sound};
-use ca_tree::{FunId, ItemId, Listed, NoMemory};
+use ca_tree::{Listed, NoMemory};
 use std::alloc::Global;
-
-// The number of a function has 32 bits.
-fn read_function(function: FunId)
-    ensures { function.0 < 4294967296 }
-{
-    let _number = function.0;
-}
-
-// Functions that are read have numbers of 32 bits.
-fn read_functions(functions: &[FunId])
-    ensures { (n : AFun) → Contains functions.now n → n.0 < 4294967296 }
-{
-    'functions: for function in functions {
-        read_function(*function);
-    }
-}
-
-// A source is well-formed, and keeps within limits.
-fn formed(code: &Code)
-    ensures formed { IsWellFormed code.now.source }
-    ensures bounded { IsBounded code.now.source }
-{
-    let _graphs = code.graphs();
-}
-
-// What stands before some items, and where the paths from them stop.
-fn points(alloc: Global, code: &Code, from: &[ItemId], depth: u32) -> Result<Points, NoMemory>
-    requires from { AreItems code.now.source from.now }
-    requires depth { depth ≤ 8 }
-    ensures points { IfOk result (λ r. ArePoints code.now.source depth from.now r) }
-{
-    formed(code);
-    let callers = Callers::new(alloc, code)?;
-    let points = callers.points(alloc, from, depth)?;
-    read_items(points.items.as_slice());
-    read_items(points.after.as_slice());
-    read_functions(points.entries.as_slice());
-    Ok(points)
-}
 
 // The plan, where each number that is named is a site's.
 fn plan_of(alloc: Global, code: &Code, options: &PlanOptions) -> Result<Plan, NoMemory>
@@ -69,7 +31,8 @@ fn plan_of(alloc: Global, code: &Code, options: &PlanOptions) -> Result<Plan, No
     formed(code);
     let sites = taken(alloc, code, options)?;
     let own = items_of(alloc, code, &sites)?;
-    let found = points(alloc, code, &own, options.depth)?;
+    let callers = Callers::new(alloc, code)?;
+    let found = points(alloc, &callers, &own, options.depth)?;
     let acquires = acquiring(alloc, code, found.items.as_slice(), &own)?;
     let Points { after, entries, .. } = found;
     Ok(Plan {

@@ -1,7 +1,7 @@
 use Rattle.std.proofs.Common.{arith, refl}
 use Rattle.ca_tree.specs.declared.numbers.FunId.{FunId}
 use Rattle.ca_plan.proofs.Setting.{none_fits, fits_more, all_fit}
-use Rattle.ca_plan.proofs.planning.read_functions.Goals as goal
+use Rattle.ca_plan.proofs.points.read_functions.Goals as goal
 
 pub functions-init : goal.functions-init
 functions-init c = none_fits FunId (λ f. f.0)
