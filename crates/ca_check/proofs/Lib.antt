@@ -1,2 +1,4 @@
 pub mod Passing
 pub mod Following
+pub mod Onward
+pub mod Answering

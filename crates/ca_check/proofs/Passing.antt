@@ -19,7 +19,7 @@ use Rattle.ca_check.specs.declared.checking.CheckNo.TheVariants as no
 use Rattle.ca_check.specs.Verdicts.{rules, LeadTo, IsRunTo, IsFirstNoStep, IsVerdict}
 
 -- a run reaches one state
-one_state : (r : Rules Hardened) (es : List Event) (old a b : State Hardened) → Run r old es a → Run r old es b → a ≡ b
+pub one_state : (r : Rules Hardened) (es : List Event) (old a b : State Hardened) → Run r old es a → Run r old es b → a ≡ b
 one_state r [] old a b p q = p ∙ sym q
 one_state r (e ∷ es) old a b (m, s, p) (n, t, q) = one_state r es n a b (subst (λ x. Run r x es a) (next_is_fixed r old e m n s t) p) q
 
@@ -88,8 +88,11 @@ one_ending p plan es a b x y =
     let same : x.last ≡ y.last = one_state (rules p plan) es (opening (rules p plan) p) x.last y.last x.run y.run in
     one_end (rules p plan) y.last a b (subst (λ (s : State Hardened). EndsAs (rules p plan) s a) same x.ends) y.ends
 
+pub no_way : (p : Typed) (plan : Plan) (es : List Event) (s : State Hardened) (i : ℕ) → LeadTo p plan es s → IsFirstNoStep p plan es i → ⊥
+no_way p plan es s i run f = stops p plan es i (length es) s f (there es i f.entry f.stands) (whole p plan es s run)
+
 pub no_run : (p : Typed) (plan : Plan) (es : List Event) (end : Ending) (i : ℕ) → IsRunTo p plan es end → IsFirstNoStep p plan es i → ⊥
-no_run p plan es end i x f = stops p plan es i (length es) x.last f (there es i f.entry f.stands) (whole p plan es x.last x.run)
+no_run p plan es end i x f = no_way p plan es x.last i x.run f
 
 pub one_index : (p : Typed) (plan : Plan) (es : List Event) (i j : ℕ) → IsFirstNoStep p plan es i → IsFirstNoStep p plan es j → i ≡ j
 one_index p plan es i j f g = elim (cases_lt i j) [

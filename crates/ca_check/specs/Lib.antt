@@ -1,1 +1,4 @@
 pub mod Verdicts
+pub mod Projections
+pub mod Lifts
+pub mod Ways
