@@ -1,6 +1,7 @@
 -- The places of the items of statements, by their parts.
-use Rattle.std.proofs.Common.{◌≡◌, ℕ, ◌+◌, ◌<◌, ◌≤◌, List, [], ◌∷◌, ◌++◌, map, length, Option, Some, None, drop, get_or, refl, sym, ap, ◌∙◌, append_assoc, append-nil}
+use Rattle.std.proofs.Common.{◌≡◌, ℕ, suc, ◌+◌, ◌<◌, ◌≤◌, List, [], ◌∷◌, ◌++◌, map, length, Option, Some, None, drop, get_or, refl, sym, ap, ◌∙◌, append_assoc, append-nil, add-one}
 use Rattle.std.specs.Prelude.{slice_get}
+use Rattle.std.proofs.Math.Seq.{drop-cons}
 use Rattle.std.proofs.lemmas.List.{map-append, drop_all}
 use Rattle.std.proofs.lemmas.Option.{slice_get_within, get_or_from_slice_get}
 use Rattle.ca_tree.specs.declared.text.Pos.{Pos}
@@ -10,7 +11,6 @@ use Rattle.ca_model.specs.declared.tree.Stmt.{Stmt}
 use Rattle.ca_model.specs.declared.tree.Stmt.TheVariants as s
 use Rattle.ca_model.specs.Sites.{if_any, joined, items_in, items_in_all, items_of, all_items}
 use Rattle.ca_model.proofs.Equations.{items_out, items_block}
-use Rattle.ca_sites.proofs.NotedItems.{from_next}
 
 abbrev places : List Item → List Pos
 places = map (λ (i : Item). i.pos)
@@ -47,6 +47,9 @@ pub placed_for : (x : Stmt) (first : Option Item) (c : Item) (step : Option Item
 placed_for x first c step a l h k j m is one two three four =
     then_places l h m (if_any first) (c ∷ (if_any step ++ items_in a)) one (then_places h k m (c ∷ []) (if_any step ++ items_in a) two (then_places k j m (if_any step) (items_in a) three four))
     ∙ ap (λ ys. l ++ places ys) (sym (ap items_in is ∙ items_out (s.For first c step a) _ (s.outs-For first c step a)))
+
+from_next : {A : Type 0} (xs : List A) (i : ℕ) (x : A) → i < length xs → x ≡ get_or xs i x → drop i xs ≡ x ∷ drop (i + 1) xs
+from_next xs i x lt is = drop-cons xs i x lt ∙ ap (λ y. y ∷ drop (suc i) xs) (sym is) ∙ ap (λ (k : ℕ). x ∷ drop k xs) (sym (add-one i))
 
 pub next_placed : (xs : List Stmt) (k m : List Pos) (i : ℕ) (x : Stmt) (whole : List Pos) → i < length xs → x ≡ get_or xs i x → k ++ places (items_in_all (drop i xs)) ≡ whole → m ≡ k ++ places (items_in x) → m ++ places (items_in_all (drop (i + 1) xs)) ≡ whole
 next_placed xs k m i x whole lt is before here =

@@ -8,7 +8,6 @@ use Rattle.std.proofs.lemmas.Grind.{flat_map-append}
 use Rattle.std.proofs.lemmas.List.Elements.{Contains-append_cases}
 use Rattle.ca_tree.specs.declared.numbers.SiteId.{SiteId}
 use Rattle.ca_tree.specs.declared.numbers.ItemId.{ItemId}
-use Rattle.ca_tree.specs.declared.text.Pos.{Pos}
 use Rattle.ca_model.specs.declared.tree.Item.{Item}
 use Rattle.ca_model.specs.typing.Sources.{Source}
 use Rattle.ca_model.specs.Accesses.{Site, all_sites, numbered}
@@ -22,7 +21,10 @@ use Rattle.ca_flow.proofs.SiteItems.{number_of_site}
 use Rattle.ca_callers.proofs.Rows.{read_or}
 use Rattle.ca_prune.specs.Pruning.{Tells}
 use Rattle.ca_sites.specs.declared.site.Site.{Site as ListedSite}
-use Rattle.ca_sites.specs.Found.{listed}
+use Rattle.ca_sites.specs.declared.items.TextSite.{TextSite}
+use Rattle.ca_sites.specs.declared.site.SiteKind.{SiteKind}
+use Rattle.ca_sites.specs.SiteLists.{in_tree, in_list, with_numbers}
+use Rattle.ca_sites.specs.TextSites.{text_sites}
 use Rattle.ca_plan.specs.declared.state.SiteState.{SiteState}
 use Rattle.ca_plan.specs.SiteTables.{IsStateOf, Row, IsRow, IsSiteTable, listed_sites, site_line, row_line, count_line}
 use Rattle.ca_plan.specs.Finding.{AreWordsOf, IsKnown, IsKnownIfAny}
@@ -30,24 +32,26 @@ use Rattle.ca_plan.specs.declared.finder.Known.{Known}
 
 -- ---- the list of sites
 
-listed_long : (k : ℕ) (ss : List Site) (places : List Pos) → length (listed k ss places) ≡ length ss
-listed_long k [] places = refl
-listed_long k (s ∷ ss) places = ap suc (listed_long (k + 1) ss places)
+-- lists that show the same, from the left by one function and from the right by another
+shows_at : {A B C : Type 0} (f : A → C) (g : B → C) (xs : List A) (ys : List B) → map f xs ≡ map g ys → (k : ℕ) (d : A) → k < length xs → (y : B) × (slice_get ys k ≡ Some y) × (f (get_or xs k d) ≡ g y)
+shows_at f g [] ys same k d lt = absurd (omega (arith, lt))
+shows_at f g (x ∷ xs) [] same k d lt = absurd cc
+shows_at f g (x ∷ xs) (y ∷ ys) same zero d lt = let head : f x ≡ g y = cc in (y, refl, head)
+shows_at f g (x ∷ xs) (y ∷ ys) same (suc k) d lt = let rest : map f xs ≡ map g ys = cc in shows_at f g xs ys rest k d (omega (arith, lt))
 
--- a site of the list: its number, and the site of the source that it is
-listed_at : (n : ℕ) (ss : List Site) (places : List Pos) (k : ℕ) (d : ListedSite) → k < length ss → (s : Site) × (slice_get ss k ≡ Some s) × ((get_or (listed n ss places) k d).id.0 ≡ n + k + 1) × ((get_or (listed n ss places) k d).item ≡ s.item.id)
-listed_at n [] places k d lt = absurd (omega (arith, lt))
-listed_at n (s ∷ ss) places zero d lt = (s, refl, omega arith, refl)
-listed_at n (s ∷ ss) places (suc k) d lt =
-    let (t, at, number, item) = listed_at (n + 1) ss places k d (omega (arith, lt)) in
-    (t, at, (let h = number in omega (arith, h)), item)
+number_at : (n : ℕ) (ss : List TextSite) (k : ℕ) (d : ListedSite) → k < length (with_numbers n ss) → (get_or (with_numbers n ss) k d).id.0 ≡ n + k + 1
+number_at n [] k d lt = absurd (omega (arith, lt))
+number_at n (s ∷ ss) zero d lt = omega arith
+number_at n (s ∷ ss) (suc k) d lt = let h = number_at (n + 1) ss k d (omega (arith, lt)) in omega (arith, h)
 
-pub site_at : (x : Source) (k : ℕ) (site : ListedSite) → k < length (listed_sites x) → site ≡ get_or (listed_sites x) k site → (s : Site) × IsSite x.typed s site.id × (site.id.0 ≡ k + 1) × (site.item ≡ s.item.id)
-site_at x k site lt is =
-    let long : length (listed_sites x) ≡ length (all_sites x.typed) = listed_long 0 (all_sites x.typed) _ in
-    let (s, at, number, item) = listed_at 0 (all_sites x.typed) _ k site (omega (arith, lt, long)) in
+-- a site of the list has its number, and is a site of the source
+pub site_at : (x : Source) → map in_list (listed_sites x) ≡ map in_tree (all_sites x.typed) → (k : ℕ) (site : ListedSite) → k < length (listed_sites x) → site ≡ get_or (listed_sites x) k site
+    → (s : Site) × IsSite x.typed s site.id × (site.id.0 ≡ k + 1) × (site.item ≡ s.item.id)
+site_at x shown k site lt is =
+    let (s, at, shows) = shows_at in_list in_tree (listed_sites x) (all_sites x.typed) shown k site lt in
+    let number = number_at 0 (text_sites x.program) k site lt in
     let here : site.id.0 ≡ suc k = let h : site.id.0 ≡ 0 + k + 1 = ap (λ (l : ListedSite). l.id.0) is ∙ number in omega (arith, h) in
-    (s, ap (numbered (all_sites x.typed)) here ∙ at, (omega (arith, here)), ap (λ (l : ListedSite). l.item) is ∙ item)
+    (s, ap (numbered (all_sites x.typed)) here ∙ at, (omega (arith, here)), ap (λ (l : ListedSite). l.item) is ∙ ap (λ (e : ItemId × SiteKind). e.0) shows)
 
 pub site_item : (p : Typed) → IsWellFormed p → (s : Site) (n : SiteId) (i : ItemId) → IsSite p s n → i ≡ s.item.id → IsItem p s.item i
 site_item p formed s n i is item = ((number_of_site p no_plan formed s n is).0, sym item)
@@ -111,11 +115,14 @@ site_read : (xs ys : List ListedSite) → xs ≡ ys → (k : ℕ) (d site : List
 site_read xs ys same k d site lt is =
     (subst (λ (l : List ListedSite). k < length l) same lt, sym is ∙ (read_or xs k d lt ∙ (ap (λ (l : List ListedSite). get_or l k (get_or xs k d)) same ∙ ap (get_or ys k) is)))
 
-module _ (x : Source) (formed : IsWellFormed x.typed) (xs : List ListedSite) (same : xs ≡ listed_sites x) where
+module _ (x : Source) (formed : IsWellFormed x.typed) (xs : List ListedSite) (same : xs ≡ listed_sites x) (shown : map in_list xs ≡ map in_tree (all_sites x.typed)) where
+  listed_shown : map in_list (listed_sites x) ≡ map in_tree (all_sites x.typed)
+  listed_shown = subst (λ (l : List ListedSite). map in_list l ≡ map in_tree (all_sites x.typed)) same shown
+
   pub item_there : (f : Source) → f ≡ x → (k : ℕ) (d site : ListedSite) → k < length xs → get_or xs k d ≡ site → (y : Item) × IsItem f.typed y site.item
   item_there f source k d site lt is =
       let (within, read) = site_read xs (listed_sites x) same k d site lt is in
-      let (s, at, number, item) = site_at x k site within read in
+      let (s, at, number, item) = site_at x listed_shown k site within read in
       (s.item, subst (λ (t : Source). IsItem t.typed s.item site.item) (sym source) (site_item x.typed formed s site.id site.item at item))
 
   pub next_row : (o : Options) (f : Source) → f ≡ x → (n k : ℕ) (text text' : List ℕ) (d site : ListedSite) → k < length xs → get_or xs k d ≡ site → RowsTo x o n k text → (state : SiteState)
@@ -123,7 +130,7 @@ module _ (x : Source) (formed : IsWellFormed x.typed) (xs : List ListedSite) (sa
       → ((y : Item) → IsItem f.typed y site.item → (words : List ℕ) × AreWordsOf f o.depth y words × (text' ≡ text ++ site_line site state words)) → RowsTo x o n (k + 1) text'
   next_row o f source n k text text' d site lt is so_far state becomes line =
       let (within, read) = site_read xs (listed_sites x) same k d site lt is in
-      let (s, at, number, item) = site_at x k site within read in
+      let (s, at, number, item) = site_at x listed_shown k site within read in
       let own : IsItem x.typed s.item site.item = site_item x.typed formed s site.id site.item at item in
       let (words, are, text-is) = line s.item (subst (λ (t : Source). IsItem t.typed s.item site.item) (sym source) own) in
       row_more x o n k text text' site so_far within read s at state (becomes s number at) words (subst (λ (t : Source). AreWordsOf t o.depth s.item words) source are) text-is

@@ -12,7 +12,7 @@ use Rattle.ca_model.specs.declared.tree.Item.{Item}
 use Rattle.ca_model.specs.declared.tree.Function.{Function}
 use Rattle.ca_model.specs.typing.Programs.{definitions}
 use Rattle.ca_model.specs.typing.Sources.{Source}
-use Rattle.ca_model.specs.Accesses.{Site, all_sites}
+use Rattle.ca_model.specs.Accesses.{Site}
 use Rattle.ca_model.specs.Codes.{Typed}
 use Rattle.ca_model.specs.Hopeless.{IsHopeless}
 use Rattle.ca_model.specs.Paths.{PointAfter, PointAtEntry}
@@ -23,8 +23,8 @@ use Rattle.ca_prune.specs.Pruning.{reason_of}
 use Rattle.ca_sites.specs.declared.site.Site.{Site as ListedSite}
 use Rattle.ca_sites.specs.declared.site.SiteKind.{SiteKind}
 use Rattle.ca_sites.specs.declared.site.SiteKind.TheVariants as kind
-use Rattle.ca_sites.specs.Found.{listed}
-use Rattle.ca_sites.specs.TextPlaces.{site_places}
+use Rattle.ca_sites.specs.SiteLists.{with_numbers}
+use Rattle.ca_sites.specs.TextSites.{text_sites}
 use Rattle.ca_plan.specs.declared.state.SiteState.{SiteState}
 use Rattle.ca_plan.specs.declared.state.SiteState.TheVariants as state
 
@@ -32,7 +32,7 @@ use Rattle.ca_plan.specs.declared.state.SiteState.TheVariants as state
 
 -- the sites of a source as they are listed: each with its number, its item, its place in the text and its kind
 abbrev pub listed_sites : Source → List ListedSite
-listed_sites x = listed 0 (all_sites x.typed) (site_places x.program)
+listed_sites x = with_numbers 0 (text_sites x.program)
 
 -- what becomes of a site: going back can't help at it, the options name others alone, or the plan takes it
 abbrev pub IsStateOf : Typed → Options → Site → SiteId → SiteState → Type 0
