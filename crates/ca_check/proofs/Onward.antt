@@ -1,13 +1,12 @@
 -- A lifted list is made entry by entry, where each save comes before its thread's next entry.
 use Rattle.std.proofs.Common.{◌≡◌, ℕ, Bool, true, false, cond, List, [], ◌∷◌, ◌++◌, length, drop, Some, refl, sym, ap, ◌∙◌, subst, inl, inr, append_assoc}
-use Rattle.std.specs.Prelude.{◌⊎◌, ◌||◌, slice_get}
+use Rattle.std.specs.Prelude.{◌||◌}
 use Rattle.std.proofs.Math.Seq.{drop-length}
 use Rattle.std.proofs.lemmas.List.{append-nil}
 use Rattle.std.proofs.lemmas.Bool.{cases_Bool}
 use Rattle.ca_model.specs.declared.values.Event.{Event}
 use Rattle.ca_model.specs.declared.values.EventAct.{EventAct}
 use Rattle.ca_model.specs.declared.values.EventAct.TheVariants as act
-use Rattle.ca_model.specs.Asks.{Saves}
 use Rattle.ca_model.specs.Frames.{Code}
 use Rattle.ca_model.specs.Private.{stand, answer, may_fault}
 use Rattle.ca_model.specs.Machine.{Rules, State, Step, Run, by}

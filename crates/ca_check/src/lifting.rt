@@ -80,6 +80,7 @@ fn save(alloc: Global, machine: &mut Machine, thread: u32) -> Result<(), NoMemor
         act: EventAct::Save,
     };
     'saves: loop {
+        // They can be counted, and each turn makes one more.
         let _entries = machine.shared().trace().len();
         match machine.follow(alloc, &save) {
             Ok(()) => {}
@@ -166,11 +167,11 @@ fn lifted(alloc: Global, checked: &Checked, plan: &Plan, events: &[Event]) -> Re
 
 /// The lifted list of a run of the source without a fault: the run with each save of the plan put directly before the
 /// next entry of its thread. It is a run of the source under the plan, without retries, which leads to the same shared
-/// state; its projection is the list handed in; and no other list is so. It takes the time of following each entry twice,
-/// and fewer than twice as many entries.
+/// state; its projection is the list handed in; and there is one such list. The entries are followed twice, without a
+/// plan and under the plan, and under the plan a save is tried before each.
 ///
-/// `NotARun` comes exactly as `check` without a plan refuses; `Fault` exactly where the list is a run of the source with
-/// a fault entry there, which is the last. A machine takes no more than 4,000,000,000 entries: beyond that it is want of
+/// `NotARun` comes exactly as `check` refuses without a plan; `Fault` exactly where the list is a run of the source with a
+/// fault entry there, which is its last. A machine takes no more than 4,000,000,000 entries: beyond them it is want of
 /// memory.
 pub fn lift(
     alloc: Global,

@@ -1,4 +1,4 @@
-use Rattle.std.proofs.Common.{◌≡◌, ℕ, length, arith}
+use Rattle.std.proofs.Common.{◌≡◌, length, arith}
 use Rattle.ca_check.proofs.Onward.{all_made}
 use Rattle.ca_check.proofs.lifting.enter_all.Goals as goal
 

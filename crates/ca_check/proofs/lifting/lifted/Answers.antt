@@ -1,4 +1,4 @@
-use Rattle.std.proofs.Common.{List, subst}
+use Rattle.std.proofs.Common.{subst}
 use Rattle.ca_model.specs.declared.plan.Plan.{Plan}
 use Rattle.ca_model.specs.SourceRuns.{no_plan}
 use Rattle.ca_check.specs.Verdicts.{IsRunTo}
