@@ -79,16 +79,19 @@ module _ (p : Typed) (t : Tables) (are : AreTables p t) (i : Item) (n : ItemId) 
   pub in_run : ((m : ℕ) → Contains Stops m → ⊥) → ((m : ℕ) → Contains Begun m → ⊥) → (m : ItemId) → IsOnly Back m.0 → (j : Item) × IsItem p j m × IsInRun p i j
   in_run no_stops no_starts m only =
       let (j, back, at) = (behind m.0).0 only.0 in
-      let own : Contains (all_items p.functions) j = (links_are_items p j i back.0).0 in
-      (j, (own, same_number j.id m at), record {
-        next = back.0;
-        only = λ k next. elim (true_or_false (destroys k.act)) [
-          | inl stops ↦ absurd (no_stops k.id.0 ((stopped k.id.0).1 (k, (next, stops), refl)))
-          | inr harmless ↦ one_item_a_number p are.formed k j (links_are_items p k i next).0 own (only.1 k.id.0 ((behind k.id.0).1 (k, (next, harmless), refl)) ∙ sym at)
-        ];
-        harmless = back.1;
-        inner = λ f of first. no_starts f.id.0 ((starts f.id.0).1 (f, (of, first), refl));
-      })
+      let own : Contains (all_items p.functions) j = (links_are_items p j i back.0).0 in (
+        j,
+        (own, same_number j.id m at),
+        record {
+          next = back.0;
+          only = λ k next. elim (true_or_false (destroys k.act)) [
+            | inl stops ↦ absurd (no_stops k.id.0 ((stopped k.id.0).1 (k, (next, stops), refl)))
+            | inr harmless ↦ one_item_a_number p are.formed k j (links_are_items p k i next).0 own (only.1 k.id.0 ((behind k.id.0).1 (k, (next, harmless), refl)) ∙ sym at)
+          ];
+          harmless = back.1;
+          inner = λ f of first. no_starts f.id.0 ((starts f.id.0).1 (f, (of, first), refl));
+        },
+      )
     where
       same_number : (a b : ItemId) → a.0 ≡ b.0 → a ≡ b
       same_number a b e = ap (λ (n : ℕ). let x : ItemId = record { 0 = n } in x) e
