@@ -1,11 +1,15 @@
 -- How a call ends: a cause is answered, or its answer is cut short.
-use Rattle.std.proofs.Common.{◌≡◌, ◌<◌, ℕ, List, [], ◌∷◌, Option, Err, refl, sym, subst, inl, inr, arith, append-nil, ◌∙◌}
+use Rattle.std.proofs.Common.{◌≡◌, ◌<◌, ℕ, List, [], Option, Err, sym, subst, refl, inl, inr, arith, append-nil, ◌∙◌}
 use Rattle.std.specs.Prelude.{◌⊎◌, ◌≢◌, Ok}
 use Rattle.ca_model.specs.Reports.{ending_status}
 use Rattle.ca_model.specs.declared.values.Ending.{Ending}
 use Rattle.ca_model.specs.declared.values.Ending.TheVariants as ending
-use Rattle.ca_cmd.specs.Commands.{NamesFile, Cause, Misworded, Unread, TooLong, NoTokens, NoProgram, Untyped, Ran, status, out_text, memory_text}
-use Rattle.ca_words.specs.Words.{IsRunOf, RunOptions}
+use Rattle.ca_commands.specs.Words.{Command, Means}
+use Rattle.ca_cmd.specs.Commands.{Cause, Misworded, Refused, Ran, Accepted, Tabled, refusal_status, status, out_text, memory_text}
+use Rattle.ca_cmd.specs.declared.refusals.SourceFault.TheVariants as source_fault
+use Rattle.ca_cmd.specs.declared.refusals.TraceFault.TheVariants as trace_fault
+use Rattle.ca_cmd.specs.declared.refusals.Refusal.{Refusal}
+use Rattle.ca_cmd.specs.declared.refusals.Refusal.TheVariants as refusal
 use Rattle.ca_io.specs.Ports.{PutPort, LoadPort, put_port, Wrote, WrotePart, HasFailed}
 use Rattle.ca_io.proofs.Puts.{appends_nothing, part_whole}
 use Rattle.ca_cmd.specs.declared.refusals.ServeNo.{ServeNo}
@@ -29,38 +33,45 @@ part_of : (p : PutPort) (text : List ℕ) → Wrote p text → WrotePart p text
 part_of p text w = part_whole p.old p.new text w.whole
 
 -- no cause has a status of what is cut short
-small_ending : (end : Ending) → ending_status end < 7
-small_ending ending.Finished = omega arith
-small_ending (ending.Fault k) = omega arith
-small_ending ending.Deadlock = omega arith
-small_ending ending.Unended = omega arith
-small_ending ending.Events = omega arith
-small_ending ending.Frames = omega arith
+abbrev IsApart : ℕ → Type 0
+IsApart n = (n < 7) ⊎ (8 < n)
 
-small : (cause : Cause) → status cause < 7
-small Misworded = omega arith
-small (Unread name) = omega arith
-small (TooLong name) = omega arith
-small (NoTokens name f) = omega arith
-small (NoProgram name f) = omega arith
-small (Untyped name f) = omega arith
-small (Ran o p plan events last end) = small_ending end
+apart_ending : (end : Ending) → IsApart (ending_status end)
+apart_ending ending.Finished = inl (omega arith)
+apart_ending (ending.Fault k) = inl (omega arith)
+apart_ending ending.Deadlock = inl (omega arith)
+apart_ending ending.Unended = inl (omega arith)
+apart_ending ending.Events = inl (omega arith)
+apart_ending ending.Frames = inl (omega arith)
 
--- words name their file
-pub named : (words : List (List ℕ)) (o : RunOptions) → IsRunOf words o → NamesFile words o.name
-named words o said = record { options = o; said = said; is = refl }
+apart_refusal : (r : Refusal) → IsApart (refusal_status r)
+apart_refusal (refusal.Source source_fault.Unread) = inl (omega arith)
+apart_refusal (refusal.Source source_fault.TooLong) = inl (omega arith)
+apart_refusal (refusal.Source (source_fault.NoTokens f)) = inl (omega arith)
+apart_refusal (refusal.Source (source_fault.NoProgram f)) = inl (omega arith)
+apart_refusal (refusal.Source (source_fault.Untyped f)) = inl (omega arith)
+apart_refusal (refusal.NoSuchSite n) = inl (omega arith)
+apart_refusal (refusal.Trace trace_fault.Unread) = inl (omega arith)
+apart_refusal (refusal.Trace trace_fault.TooLong) = inr (omega arith)
+apart_refusal (refusal.Trace (trace_fault.NoLine line)) = inr (omega arith)
+apart_refusal (refusal.Trace (trace_fault.NoStep index)) = inr (omega arith)
 
-module _ (words : List (List ℕ)) (files : LoadPort) (asks : AskPort) (out : PutPort) (name : List ℕ) (said : NamesFile words name) (nothing : Wrote out []) where
-  -- memory ran out before the file was loaded, and after that
-  pub before_load : asks.new ≡ asks.old → Serves words files asks out name (Err serve_no.NoMemory)
-  before_load same = inr (name ∷ [], (name, said, refl), ([], name ∷ [], refl, same ∙ sym (append-nil asks.old)), nothing)
+apart : (cause : Cause) → IsApart (status cause)
+apart Misworded = inl (omega arith)
+apart (Refused c r) = apart_refusal r
+apart (Ran o x plan events last end) = apart_ending end
+apart (Accepted o x plan events end) = inl (omega arith)
+apart (Tabled o x text) = inl (omega arith)
 
-  pub after_load : Asked asks (name ∷ []) → Serves words files asks out name (Err serve_no.NoMemory)
-  after_load asked = inr (name ∷ [], (name, said, refl), (name ∷ [], [], refl, asked), nothing)
+not_cut : (n : ℕ) → IsApart n → (n ≡ 7) ⊎ (n ≡ 8) → ⊥
+not_cut n (inl less) (inl seven) = omega (arith, less, seven)
+not_cut n (inl less) (inr eight) = omega (arith, less, eight)
+not_cut n (inr more) (inl seven) = omega (arith, more, seven)
+not_cut n (inr more) (inr eight) = omega (arith, more, eight)
 
 -- what serving answers, by the case that it is
-pub served_as : (words : List (List ℕ)) (files : LoadPort) (asks : AskPort) (out : PutPort) (name : List ℕ) (answered known : ServeNo) → answered ≡ known → Serves words files asks out name (Err answered) → Serves words files asks out name (Err known)
-served_as words files asks out name answered known is serves = subst (λ (n : ServeNo). Serves words files asks out name (Err n)) is serves
+pub served_as : (words : List (List ℕ)) (files : LoadPort) (asks : AskPort) (out : PutPort) (c : Command) (answered known : ServeNo) → answered ≡ known → Serves words files asks out c (Err answered) → Serves words files asks out c (Err known)
+served_as words files asks out c answered known is serves = subst (λ (n : ServeNo). Serves words files asks out c (Err n)) is serves
 
 module _ (words : List (List ℕ)) (files : LoadPort) (asks : AskPort) (out err : PutPort) (result : ℕ) where
   -- a cause whose text is put to `err`, or that on want of memory
@@ -75,20 +86,20 @@ module _ (words : List (List ℕ)) (files : LoadPort) (asks : AskPort) (out err 
       inr (inl (failed.0, inr failed.2, inl (cause, record { arises = arises; on_out = part_of out (out_text cause) wrote; on_err = inr failed.1 })))
   ends_told cause arises wrote (inr (inr (inr starved))) = inr (inr (starved.0, inl (cause, record { arises = arises; on_out = part_of out (out_text cause) wrote; on_err = inr starved.1 })))
 
-  module _ (name : List ℕ) where
-    -- what a file that is served ends with
-    pub ends_served : Serves words files asks out name (Ok result) → Wrote err [] → Ends words files asks out err result
+  module _ (c : Command) (said : Means words c) where
+    -- what a command that is served ends with
+    pub ends_served : Serves words files asks out c (Ok result) → Wrote err [] → Ends words files asks out err result
     ends_served (cause, arises, is, wrote, silent) nothing = inl (cause, record { arises = arises; is_status = is; on_out = wrote; on_err = subst (Wrote err) (sym silent) nothing })
 
-    pub ends_failed : Serves words files asks out name (Err serve_no.Put) → result ≡ 7 → Wrote err [] → Ends words files asks out err result
+    pub ends_failed : Serves words files asks out c (Err serve_no.Put) → result ≡ 7 → Wrote err [] → Ends words files asks out err result
     ends_failed (cause, arises, part, silent, failed) is nothing =
         inr (inl (is, inl failed, inl (cause, record { arises = arises; on_out = part; on_err = inl (subst (WrotePart err) (sym silent) (part_of err [] nothing)) })))
 
-    short : Serves words files asks out name (Err serve_no.NoMemory) → WrotePart err memory_text → IsCut words files asks out err
+    short : Serves words files asks out c (Err serve_no.NoMemory) → WrotePart err memory_text → IsCut words files asks out err
     short (inl (cause, arises, part)) on_err = inl (cause, record { arises = arises; on_out = part; on_err = inr on_err })
-    short (inr (names, named, asked, wrote)) on_err = inr (record { asked = inr (names, named, asked); on_out = wrote; on_err = on_err })
+    short (inr (asked, wrote)) on_err = inr (record { asked = inr (record { command = c; said = said; asked = asked }); on_out = wrote; on_err = on_err })
 
-    pub ends_starved : Serves words files asks out name (Err serve_no.NoMemory) → Closes 8 memory_text result err → Ends words files asks out err result
+    pub ends_starved : Serves words files asks out c (Err serve_no.NoMemory) → Closes 8 memory_text result err → Ends words files asks out err result
     ends_starved serves (inl told) = inr (inr (told.0, short serves (part_of err memory_text told.1)))
     ends_starved serves (inr (inl failed)) = inr (inl (failed.0, inr failed.2, short serves failed.1))
     ends_starved serves (inr (inr starved)) = inr (inr (starved.0, short serves starved.1))
@@ -111,16 +122,15 @@ module _ (words : List (List ℕ)) (files : LoadPort) (asks : AskPort) (out err 
   answered_at (inr (inl (is, failed, cut))) no_seven no_eight = absurd (no_seven is)
   answered_at (inr (inr (is, cut))) no_seven no_eight = absurd (no_eight is)
 
-  below : (cause : Cause) → Answers words files asks out err cause result → result < 7
-  below cause answers = subst (λ n. n < 7) (sym answers.is_status) (small cause)
+  known_whole : (cause : Cause) → Answers words files asks out err cause result → (result ≡ 7) ⊎ (result ≡ 8) → ⊥
+  known_whole cause answers = not_cut result (subst IsApart (sym answers.is_status) (apart cause))
 
   pub cut_at : Ends words files asks out err result → (result ≡ 7) ⊎ (result ≡ 8) → IsCut words files asks out err
-  cut_at (inl (cause, answers)) (inl seven) = let less = below cause answers in absurd (omega (arith, less, seven))
-  cut_at (inl (cause, answers)) (inr eight) = let less = below cause answers in absurd (omega (arith, less, eight))
+  cut_at (inl (cause, answers)) which = absurd (known_whole cause answers which)
   cut_at (inr (inl (is, failed, cut))) which = cut
   cut_at (inr (inr (is, cut))) which = cut
 
   pub failed_at : Ends words files asks out err result → result ≡ 7 → HasFailed out ⊎ HasFailed err
-  failed_at (inl (cause, answers)) seven = let less = below cause answers in absurd (omega (arith, less, seven))
+  failed_at (inl (cause, answers)) seven = absurd (known_whole cause answers (inl seven))
   failed_at (inr (inl (is, failed, cut))) seven = failed
   failed_at (inr (inr (is, cut))) seven = absurd (omega (arith, is, seven))

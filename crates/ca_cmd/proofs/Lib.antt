@@ -1,4 +1,8 @@
 pub mod Reporting
+pub mod Loading
+pub mod Refusing
+pub mod Ranges
+pub mod Putting
 pub mod Ends
 pub mod Sources
 pub mod Running

@@ -14,7 +14,7 @@ use Rattle.ca_grammar.proofs.OneFault.{no_fault}
 use Rattle.ca_grammar.proofs.Spreading.{program_spreads}
 use Rattle.ca_grammar.proofs.Wholes.{program_reads}
 use Rattle.ca_model.specs.declared.types.TypeFault.{TypeFault}
-use Rattle.ca_model.specs.Codes.{Typed}
+use Rattle.ca_model.specs.typing.Sources.{Source}
 use Rattle.ca_model.specs.typing.Programs.{known}
 use Rattle.ca_model.specs.typing.Typing.{IsTyping}
 use Rattle.ca_model.proofs.FirstFaults.{some_there}
@@ -25,20 +25,24 @@ one_text bytes a b s t =
     let same : s.tokens ≡ t.tokens = one_list bytes s.tokens t.tokens s.lexed t.lexed in
     one_program back sample program_reads all_kept t.tokens a b (subst (IsProgram all_kept a) same s.read) t.read
 
-pub one_source : (bytes : List ℕ) (p q : Typed) → IsSource bytes p → IsSource bytes q → p ≡ q
-one_source bytes p q s t =
-    let typing : IsTyping t.program p = subst (λ a. IsTyping a p) (one_text bytes s.program t.program s.text t.text) s.typing in
-    typing.is ∙ sym t.typing.is
+sources_from : (x y : Source) → x.program ≡ y.program → x.typed ≡ y.typed → x ≡ y
+sources_from x y program typed = λ i. record { program = program i; typed = typed i }
 
-pub lexes : (bytes : List ℕ) (p : Typed) (f : LexFault) → IsSource bytes p → HasFault bytes f → ⊥
-lexes bytes p f s fault = tokens_or_fault bytes s.text.tokens f s.text.lexed fault
+pub one_source : (bytes : List ℕ) (x y : Source) → IsSource bytes x → IsSource bytes y → x ≡ y
+one_source bytes x y s t =
+    let program : x.program ≡ y.program = one_text bytes x.program y.program s.text t.text in
+    let typing : IsTyping y.program x.typed = subst (λ a. IsTyping a x.typed) program s.typing in
+    sources_from x y program (typing.is ∙ sym t.typing.is)
 
-pub reads : (bytes : List ℕ) (p : Typed) (f : ReadFault) → IsSource bytes p → HasReadFault bytes f → ⊥
-reads bytes p f s fault =
+pub lexes : (bytes : List ℕ) (x : Source) (f : LexFault) → IsSource bytes x → HasFault bytes f → ⊥
+lexes bytes x f s fault = tokens_or_fault bytes s.text.tokens f s.text.lexed fault
+
+pub reads : (bytes : List ℕ) (x : Source) (f : ReadFault) → IsSource bytes x → HasReadFault bytes f → ⊥
+reads bytes x f s fault =
     let same : s.text.tokens ≡ fault.tokens = one_list bytes s.text.tokens fault.tokens s.text.lexed fault.lexed in
-    no_fault AProgram program_spreads fault.tokens f (s.program, subst (IsProgram all_kept s.program) same s.text.read) fault.fault
+    no_fault AProgram program_spreads fault.tokens f (x.program, subst (IsProgram all_kept x.program) same s.text.read) fault.fault
 
-pub types : (bytes : List ℕ) (p : Typed) (f : TypeFault) → IsSource bytes p → HasTypeFault bytes f → ⊥
-types bytes p f s fault =
-    let typing : IsTyping fault.program p = subst (λ a. IsTyping a p) (one_text bytes s.program fault.program s.text fault.text) s.typing in
+pub types : (bytes : List ℕ) (x : Source) (f : TypeFault) → IsSource bytes x → HasTypeFault bytes f → ⊥
+types bytes x f s fault =
+    let typing : IsTyping fault.program x.typed = subst (λ a. IsTyping a x.typed) (one_text bytes x.program fault.program s.text fault.text) s.typing in
     some_there (known fault.program).faults f typing.sound fault.fault

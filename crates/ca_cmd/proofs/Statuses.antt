@@ -1,27 +1,223 @@
--- Where the contents of the file are told, the causes that are there have one status.
-use Rattle.std.proofs.Common.{◌≡◌, ◌≤◌, ◌<◌, ℕ, List, length, Option, Some, None, refl, sym, ap, subst, inl, inr, arith, ◌∙◌}
-use Rattle.std.specs.Prelude.{◌⊎◌, IfSome}
-use Rattle.ca_tree.specs.Lexed.{HasFault}
+-- Where the contents of the files are told, the causes that are there have one status.
+use Rattle.std.proofs.Common.{◌≡◌, ◌<◌, ℕ, Bool, true, false, List, [], ◌∷◌, length, Option, Some, None, Contains, refl, sym, ap, subst, inl, inr, arith, ◌∙◌}
+use Rattle.std.specs.Prelude.{◌⊎◌, IfSome, cond}
+use Rattle.std.proofs.lemmas.List.Elements.{Contains-append_right}
+use Rattle.ca_traces.specs.Readings.{IsReading}
 use Rattle.ca_model.specs.declared.plan.Plan.{Plan}
 use Rattle.ca_model.specs.declared.values.Event.{Event}
 use Rattle.ca_model.specs.declared.values.Ending.{Ending}
 use Rattle.ca_model.specs.Codes.{Typed, code_of}
+use Rattle.ca_model.specs.typing.Sources.{Source}
 use Rattle.ca_model.specs.Hardened.{Hardened}
 use Rattle.ca_model.specs.Machine.{State}
 use Rattle.ca_model.specs.Reports.{ending_status}
-use Rattle.ca_model.specs.Runner as runner
+use Rattle.ca_model.proofs.Members.{at_head}
+use Rattle.ca_model.proofs.OnePlan.{one_plan}
 use Rattle.ca_model.proofs.RunnerRuns.{one_run}
 use Rattle.ca_model.proofs.RunnerStates.{opening_reached}
-use Rattle.ca_words.specs.Words.{IsRunOf, RunOptions}
-use Rattle.ca_words.proofs.OneMeaning.{one_meaning}
+use Rattle.ca_traces.proofs.OneReading.{one_list, not_both}
+use Rattle.ca_check.specs.Verdicts.{IsRunTo}
+use Rattle.ca_check.proofs.Passing.{no_run}
+use Rattle.ca_plan.specs.Planning.{AreSiteNumbers, named, options_of}
+use Rattle.ca_commands.specs.Words.{PlanOptions, RunnerOptions, CheckOptions, Command, Run, Check, Sites, Means}
+use Rattle.ca_commands.proofs.OneMeaning.{one_meaning}
 use Rattle.ca_io.specs.Outside.{IsTold}
 use Rattle.ca_io.specs.Ports.{PutPort, LoadPort, HasFailedLoad}
-use Rattle.ca_cmd.specs.Sources.{IsSource, HasReadFault, HasTypeFault}
-use Rattle.ca_cmd.specs.Runs.{IsRun, schedule_of, most_events, patience}
-use Rattle.ca_cmd.specs.Commands.{source_limit, NamesFile, HoldsSo, Cause, Misworded, Unread, TooLong, NoTokens, NoProgram, Untyped, Ran, status, Stands}
+use Rattle.ca_cmd.specs.declared.refusals.SourceFault.{SourceFault}
+use Rattle.ca_cmd.specs.declared.refusals.SourceFault.TheVariants as source_fault
+use Rattle.ca_cmd.specs.declared.refusals.TraceFault.{TraceFault}
+use Rattle.ca_cmd.specs.declared.refusals.TraceFault.TheVariants as trace_fault
+use Rattle.ca_cmd.specs.declared.refusals.Refusal.TheVariants as refusal
+use Rattle.ca_cmd.specs.Loads.{Load, Loaded, Exceeded, Unloaded, Giving, HoldsSo, source_limit, trace_limit}
+use Rattle.ca_cmd.specs.Hardening.{wanted, IsHardening, LacksSite}
+use Rattle.ca_cmd.specs.Sources.{IsSource}
+use Rattle.ca_cmd.specs.Runs.{IsRun, most_events, patience_of}
+use Rattle.ca_cmd.specs.Commands.{source_of, is_plain, said_of, Cause, Misworded, Refused, Ran, Accepted, Tabled, refusal_status, status, IsSourceIn, IsTraceIn, IsTraceRefused, RefusesSource, RefusesTrace, Stands}
 use Rattle.ca_cmd.specs.Serving.{AskPort, MayGive, Holds, NoneFailed}
-use Rattle.ca_cmd.proofs.Ends.{Ends, named}
+use Rattle.ca_cmd.proofs.Ends.{Ends}
 use Rattle.ca_cmd.proofs.Sources.{one_source, lexes, reads, types}
+
+-- ---- what a cause is made of, one thing after the other
+
+-- the sites that are named are there, where the source is hardened
+abbrev HasSites : Bool → PlanOptions → Typed → Type 0
+HasSites true o p = Unit {0}
+HasSites false o p = AreSiteNumbers p (named o.only)
+
+-- a trace is refused, or is a run
+abbrev OfTrace : Giving → CheckOptions → Typed → Plan → ℕ → Type 0
+OfTrace Gives o p plan n =
+    ((f : TraceFault) × RefusesTrace Gives p plan o.trace f × (n ≡ refusal_status (refusal.Trace f)))
+    ⊎ ((events : List Event) × (end : Ending) × IsTraceIn Gives o.trace events × IsRunTo p plan events end × (n ≡ 0))
+
+-- behind an accepted source: its run, or what its trace is
+abbrev Behind : Giving → Command → Typed → ℕ → Type 0
+Behind Gives (Run o) p n =
+    (plan : Plan) × (events : List Event) × (last : State Hardened) × (end : Ending) × IsHardening o.plain o.plan p plan × IsRun p o.runner plan events last end × (n ≡ ending_status end)
+Behind Gives (Check o) p n =
+    (plan : Plan) × IsHardening o.plain o.plan p plan × OfTrace Gives o p plan n
+Behind Gives (Sites o) p n = n ≡ 0
+
+-- a source lacks a site that is named, or goes on
+abbrev OfSites : Giving → Command → Typed → ℕ → Type 0
+OfSites Gives c p n = ((m : ℕ) × LacksSite (is_plain c) (said_of c) p m × (n ≡ 2)) ⊎ (HasSites (is_plain c) (said_of c) p × Behind Gives c p n)
+
+-- a source that is refused, or an accepted one
+abbrev Parts : Giving → Command → ℕ → Type 0
+Parts Gives c n =
+    ((f : SourceFault) × RefusesSource Gives (source_of c) f × (n ≡ refusal_status (refusal.Source f)))
+    ⊎ ((x : Source) × IsSourceIn Gives (source_of c) x × OfSites Gives c x.typed n)
+
+has_sites : (plain : Bool) (o : PlanOptions) (p : Typed) (plan : Plan) → IsHardening plain o p plan → HasSites plain o p
+has_sites true o p plan h = tt
+has_sites false o p plan h = h.0
+
+trace_parts : (Gives : Giving) (c : Command) (f : TraceFault) → IsTraceRefused Gives c f → Parts Gives c (refusal_status (refusal.Trace f))
+trace_parts Gives (Run o) f t = absurd cc
+trace_parts Gives (Check o) f t =
+    let one : o.trace ∷ [] ≡ t.name ∷ [] = t.named in
+    let same : t.name ≡ o.trace = cc in
+    inr (t.source, t.taken.source, inr (has_sites o.plain o.plan t.source.typed t.plan t.taken.hardening, (t.plan, t.taken.hardening, inl (f, subst (λ name. RefusesTrace Gives t.source.typed t.plan name f) same t.refused, refl))))
+trace_parts Gives (Sites o) f t = absurd cc
+
+-- words that are no command, or are one
+abbrev OfWords : List (List ℕ) → Giving → ℕ → Type 0
+OfWords words Gives n = (((c : Command) → Means words c → ⊥) × (n ≡ 2)) ⊎ ((c : Command) × Means words c × Parts Gives c n)
+
+parts : (words : List (List ℕ)) (Gives : Giving) (a : Cause) → Stands words Gives a → OfWords words Gives (status a)
+parts words Gives Misworded never = inl (never, refl)
+parts words Gives (Refused c (refusal.Source f)) (said, refuses) = inr (c, said, inl (f, refuses, refl))
+parts words Gives (Refused c (refusal.NoSuchSite n)) (said, (x, source, lacks)) = inr (c, said, inr (x, source, inl (n, lacks, refl)))
+parts words Gives (Refused c (refusal.Trace f)) (said, refused) = inr (c, said, trace_parts Gives c f refused)
+parts words Gives (Ran o x plan events last end) (said, taken, run) =
+    inr (Run o, said, inr (x, taken.source, inr (has_sites o.plain o.plan x.typed plan taken.hardening, (plan, events, last, end, taken.hardening, run, refl))))
+parts words Gives (Accepted o x plan events end) (said, taken, trace, run) =
+    inr (Check o, said, inr (x, taken.source, inr (has_sites o.plain o.plan x.typed plan taken.hardening, (plan, taken.hardening, inr (events, end, trace, run, refl)))))
+parts words Gives (Tabled o x text) (said, source, (sites, table)) = inr (Sites o, said, inr (x, source, inr (sites, refl)))
+
+-- ---- what is one
+
+one_hardening : (plain : Bool) (o : PlanOptions) (p : Typed) (plan other : Plan) → IsHardening plain o p plan → IsHardening plain o p other → plan ≡ other
+one_hardening true o p plan other a b = a ∙ sym b
+one_hardening false o p plan other a b = one_plan p (options_of (wanted o)) plan other a.1 b.1
+
+lacks_or_has : (plain : Bool) (o : PlanOptions) (p : Typed) (n : ℕ) → LacksSite plain o p n → HasSites plain o p → ⊥
+lacks_or_has true o p n lacks has = lacks
+lacks_or_has false o p n (before, after, is, there, none) has = none (has n (subst (λ ns. Contains ns n) (sym is) (Contains-append_right before (n ∷ after) n (at_head n after))))
+
+-- the runner gives one ending
+one_ending : (p : Typed) (o : RunnerOptions) (plan : Plan) (events more : List Event) (last next : State Hardened) (end also : Ending) → IsRun p o plan events last end → IsRun p o plan more next also → end ≡ also
+one_ending p o plan events more last next end also a b = (one_run (code_of p plan) (most_events o) (patience_of o) (length p.globals) (opening_reached p) a.run b.run).1
+
+abbrev is_unloaded : Load → Bool
+is_unloaded (Loaded bytes) = false
+is_unloaded Exceeded = false
+is_unloaded Unloaded = true
+
+-- a refusal by a load, or by what was loaded
+source_load : (Gives : Giving) (name : List ℕ) (f : SourceFault) → RefusesSource Gives name f → (l : Load) × Gives source_limit name l × (refusal_status (refusal.Source f) ≡ cond (is_unloaded l) 6 3)
+source_load Gives name source_fault.Unread gives = (Unloaded, gives, refl)
+source_load Gives name source_fault.TooLong gives = (Exceeded, gives, refl)
+source_load Gives name (source_fault.NoTokens f) h = (Loaded h.bytes, h.loaded, refl)
+source_load Gives name (source_fault.NoProgram f) h = (Loaded h.bytes, h.loaded, refl)
+source_load Gives name (source_fault.Untyped f) h = (Loaded h.bytes, h.loaded, refl)
+
+trace_load : (Gives : Giving) (p : Typed) (plan : Plan) (name : List ℕ) (f : TraceFault) → RefusesTrace Gives p plan name f → (l : Load) × Gives trace_limit name l × (refusal_status (refusal.Trace f) ≡ cond (is_unloaded l) 6 9)
+trace_load Gives p plan name trace_fault.Unread gives = (Unloaded, gives, refl)
+trace_load Gives p plan name trace_fault.TooLong gives = (Exceeded, gives, refl)
+trace_load Gives p plan name (trace_fault.NoLine line) h = (Loaded h.bytes, h.loaded, refl)
+trace_load Gives p plan name (trace_fault.NoStep index) (events, h, none) = (Loaded h.bytes, h.loaded, refl)
+
+-- loads that agree
+abbrev Agree : Giving → Giving → Type 0
+Agree G H = (limit : ℕ) (name : List ℕ) (x y : Load) → G limit name x → H limit name y → x ≡ y
+
+other_way : (G H : Giving) → Agree G H → Agree H G
+other_way G H agree limit name x y a b = sym (agree limit name y x b a)
+
+module _ (G H : Giving) (agree : Agree G H) where
+  same_bytes : (limit : ℕ) (name : List ℕ) (P Q : List ℕ → Type 0) (a : HoldsSo G limit name P) (b : HoldsSo H limit name Q) → a.bytes ≡ b.bytes
+  same_bytes limit name P Q a b =
+      let one : Loaded a.bytes ≡ Loaded b.bytes = agree limit name (Loaded a.bytes) (Loaded b.bytes) a.loaded b.loaded in
+      cc
+
+  same_source : (name : List ℕ) (x y : Source) → IsSourceIn G name x → IsSourceIn H name y → x ≡ y
+  same_source name x y a b = one_source b.bytes x y (subst (λ (t : List ℕ). IsSource t x) (same_bytes source_limit name _ _ a b) a.is_so) b.is_so
+
+  same_trace : (name : List ℕ) (es fs : List Event) → IsTraceIn G name es → IsTraceIn H name fs → es ≡ fs
+  same_trace name es fs a b = one_list b.bytes es fs (subst (λ (t : List ℕ). IsReading t es) (same_bytes trace_limit name _ _ a b) a.is_so) b.is_so
+
+  taken_or_refused : (name : List ℕ) (x : Source) (f : SourceFault) → IsSourceIn G name x → RefusesSource H name f → ⊥
+  taken_or_refused name x source_fault.Unread a b = let e = agree source_limit name (Loaded a.bytes) Unloaded a.loaded b in absurd cc
+  taken_or_refused name x source_fault.TooLong a b = let e = agree source_limit name (Loaded a.bytes) Exceeded a.loaded b in absurd cc
+  taken_or_refused name x (source_fault.NoTokens f) a b = lexes b.bytes x f (subst (λ (t : List ℕ). IsSource t x) (same_bytes source_limit name _ _ a b) a.is_so) b.is_so
+  taken_or_refused name x (source_fault.NoProgram f) a b = reads b.bytes x f (subst (λ (t : List ℕ). IsSource t x) (same_bytes source_limit name _ _ a b) a.is_so) b.is_so
+  taken_or_refused name x (source_fault.Untyped f) a b = types b.bytes x f (subst (λ (t : List ℕ). IsSource t x) (same_bytes source_limit name _ _ a b) a.is_so) b.is_so
+
+  trace_or_refused : (name : List ℕ) (p : Typed) (plan : Plan) (f : TraceFault) (events : List Event) (end : Ending) → IsTraceIn G name events → IsRunTo p plan events end → RefusesTrace H p plan name f → ⊥
+  trace_or_refused name p plan trace_fault.Unread events end a run b = let e = agree trace_limit name (Loaded a.bytes) Unloaded a.loaded b in absurd cc
+  trace_or_refused name p plan trace_fault.TooLong events end a run b = let e = agree trace_limit name (Loaded a.bytes) Exceeded a.loaded b in absurd cc
+  trace_or_refused name p plan (trace_fault.NoLine line) events end a run b =
+      not_both b.bytes events line (subst (λ (t : List ℕ). IsReading t events) (same_bytes trace_limit name _ _ a b) a.is_so) b.is_so
+  trace_or_refused name p plan (trace_fault.NoStep index) events end a run (more, b, none) =
+      no_run p plan more end index (subst (λ (es : List Event). IsRunTo p plan es end) (same_trace name events more a b) run) none
+
+-- ---- one status
+
+by_load : (n m : ℕ) (x y : Load) (a b : ℕ) → x ≡ y → n ≡ cond (is_unloaded x) a b → m ≡ cond (is_unloaded y) a b → n ≡ m
+by_load n m x y a b same one other = one ∙ (ap (λ (l : Load). cond (is_unloaded l) a b) same ∙ sym other)
+
+module _ (G H : Giving) (agree : Agree G H) where
+  one_behind : (c : Command) (p : Typed) (n m : ℕ) → Behind G c p n → Behind H c p m → n ≡ m
+  one_behind (Run o) p n m (plan, events, last, end, hard, run, is) (other, more, next, also, hard', run', is') =
+      let same : other ≡ plan = one_hardening o.plain o.plan p other plan hard' hard in
+      let second = subst (λ (q : Plan). IsRun p o.runner q more next also) same run' in
+      is ∙ (ap ending_status (one_ending p o.runner plan events more last next end also run second) ∙ sym is')
+  one_behind (Check o) p n m (plan, hard, a) (other, hard', b) = which a b
+    where
+      same : other ≡ plan
+      same = one_hardening o.plain o.plan p other plan hard' hard
+
+      which : OfTrace G o p plan n → OfTrace H o p other m → n ≡ m
+      which (inl (f, refused, is)) (inl (g, refused', is')) =
+          let x = trace_load G p plan o.trace f refused in
+          let y = trace_load H p other o.trace g refused' in
+          by_load n m x.0 y.0 6 9 (agree trace_limit o.trace x.0 y.0 x.1 y.1) (is ∙ x.2) (is' ∙ y.2)
+      which (inl (f, refused, is)) (inr (events, end, trace, run, is')) =
+          absurd (trace_or_refused H G (other_way G H agree) o.trace p plan f events end trace (subst (λ (q : Plan). IsRunTo p q events end) same run) refused)
+      which (inr (events, end, trace, run, is)) (inl (g, refused, is')) =
+          absurd (trace_or_refused G H agree o.trace p plan g events end trace run (subst (λ (q : Plan). RefusesTrace H p q o.trace g) same refused))
+      which (inr (events, end, trace, run, is)) (inr (more, also, trace', run', is')) = is ∙ sym is'
+  one_behind (Sites o) p n m a b = a ∙ sym b
+
+  one_part : (c : Command) (n m : ℕ) → Parts G c n → Parts H c m → n ≡ m
+  one_part c n m (inl (f, a, is)) (inl (g, b, is')) =
+      let x = source_load G (source_of c) f a in
+      let y = source_load H (source_of c) g b in
+      by_load n m x.0 y.0 6 3 (agree source_limit (source_of c) x.0 y.0 x.1 y.1) (is ∙ x.2) (is' ∙ y.2)
+  one_part c n m (inl (f, a, is)) (inr (y, source, rest)) = absurd (taken_or_refused H G (other_way G H agree) (source_of c) y f source a)
+  one_part c n m (inr (x, source, rest)) (inl (g, b, is)) = absurd (taken_or_refused G H agree (source_of c) x g source b)
+  one_part c n m (inr (x, source, rest)) (inr (y, source', rest')) =
+      let same : y ≡ x = sym (same_source G H agree (source_of c) x y source source') in
+      which rest (subst (λ (z : Source). OfSites H c z.typed m) same rest')
+    where
+      which : OfSites G c x.typed n → OfSites H c x.typed m → n ≡ m
+      which (inl (s, lacks, is)) (inl (t, lacks', is')) = is ∙ sym is'
+      which (inl (s, lacks, is)) (inr (has, behind)) = absurd (lacks_or_has (is_plain c) (said_of c) x.typed s lacks has)
+      which (inr (has, behind)) (inl (t, lacks, is)) = absurd (lacks_or_has (is_plain c) (said_of c) x.typed t lacks has)
+      which (inr (has, behind)) (inr (has', behind')) = one_behind c x.typed n m behind behind'
+
+  pub one_status : (words : List (List ℕ)) (a b : Cause) → Stands words G a → Stands words H b → status a ≡ status b
+  one_status words a b s t = which (parts words G a s) (parts words H b t)
+    where
+      which : OfWords words G (status a) → OfWords words H (status b) → status a ≡ status b
+      which (inl (never, is)) (inl (never', is')) = is ∙ sym is'
+      which (inl (never, is)) (inr (c, said, rest)) = absurd (never c said)
+      which (inr (c, said, rest)) (inl (never, is)) = absurd (never c said)
+      which (inr (c, said, rest)) (inr (d, said', rest')) =
+          one_part c (status a) (status b) rest (subst (λ (e : Command). Parts H e (status b)) (one_meaning words d c said' said) rest')
+
+-- ---- what is told of files, and what was found
 
 told_is : (told : Option (List ℕ)) (bytes held : List ℕ) → IsTold told bytes → told ≡ Some held → bytes ≡ held
 told_is None bytes held is same = absurd cc
@@ -31,84 +227,24 @@ told_long : (told : Option (List ℕ)) (n : ℕ) (held : List ℕ) → IfSome to
 told_long None n held is same = absurd cc
 told_long (Some xs) n held is same = let one : xs ≡ held = cc in subst (λ (b : List ℕ). n < length b) one is
 
--- the words name one file
-one_name : (words : List (List ℕ)) (a b : List ℕ) → NamesFile words a → NamesFile words b → a ≡ b
-one_name words a b s t = sym s.is ∙ (ap (λ (o : RunOptions). o.name) (one_meaning words s.options t.options s.said t.said) ∙ t.is)
-
--- the runner gives one ending
-one_ending : (p : Typed) (o : RunOptions) (plan other : Plan) (events more : List Event) (last next : State Hardened) (end also : Ending) → IsRun p o plan events last end → IsRun p o other more next also → end ≡ also
-one_ending p o plan other events more last next end also a b =
-    let same : other ≡ plan = b.plain ∙ sym a.plain in
-    let second = subst (λ (q : Plan). runner.IsRunOf p q (schedule_of o) (most_events o.events) patience more also) same b.run in
-    (one_run (code_of p plan) (most_events o.events) patience (length p.globals) (opening_reached p) a.run second).1
-
-module _ (words : List (List ℕ)) (files : LoadPort) (none : HasFailedLoad files → ⊥) where
-  -- the words name this file, and it holds these bytes
-  module _ (name bytes : List ℕ) (said : NamesFile words name) (told : files.holds name ≡ Some bytes) where
-    held_by : (other : List ℕ) → NamesFile words other → files.holds other ≡ Some bytes
-    held_by other also = ap files.holds (one_name words other name also said) ∙ told
-
-    -- what was loaded is that
-    is_held : (other loaded : List ℕ) → NamesFile words other → IsTold (files.holds other) loaded → loaded ≡ bytes
-    is_held other loaded also is = told_is (files.holds other) loaded bytes is (held_by other also)
-
-    so_held : (other : List ℕ) (IsSo : List ℕ → Type 0) → HoldsSo words (MayGive files) other IsSo → IsSo bytes
-    so_held other IsSo holds = subst IsSo (is_held other holds.bytes holds.named holds.loaded.0) holds.is_so
-
-    -- what is no source is refused
-    refused : ((p : Typed) → length bytes ≤ source_limit → IsSource bytes p → ⊥) → (found : Cause) → Stands words (MayGive files) found → status found ≡ 3
-    refused never Misworded stands = absurd (stands said.options said.said)
-    refused never (Unread other) stands = absurd (none stands.1)
-    refused never (TooLong other) stands = refl
-    refused never (NoTokens other f) stands = refl
-    refused never (NoProgram other f) stands = refl
-    refused never (Untyped other f) stands = refl
-    refused never (Ran o p plan events last end) stands =
-        let same = is_held o.name stands.bytes (named words o stands.said) stands.loaded.0 in
-        absurd (never p (subst (λ (t : List ℕ). length t ≤ source_limit) same stands.loaded.1) (subst (λ (t : List ℕ). IsSource t p) same stands.source))
-
-    -- a source is run, and ends as its run does
-    ran : (o : RunOptions) (p : Typed) (plan : Plan) (events : List Event) (last : State Hardened) (end : Ending) → IsRunOf words o → length bytes ≤ source_limit → IsSource bytes p → IsRun p o plan events last end
-        → (found : Cause) → Stands words (MayGive files) found → status found ≡ ending_status end
-    ran o p plan events last end these short source run Misworded stands = absurd (stands o these)
-    ran o p plan events last end these short source run (Unread other) stands = absurd (none stands.1)
-    ran o p plan events last end these short source run (TooLong other) stands =
-        let long = told_long (files.holds other) source_limit bytes stands.1 (held_by other stands.0) in
-        absurd (omega (arith, long, short))
-    ran o p plan events last end these short source run (NoTokens other f) stands = absurd (lexes bytes p f source (so_held other (λ b. HasFault b f) stands))
-    ran o p plan events last end these short source run (NoProgram other f) stands = absurd (reads bytes p f source (so_held other (λ b. HasReadFault b f) stands))
-    ran o p plan events last end these short source run (Untyped other f) stands = absurd (types bytes p f source (so_held other (λ b. HasTypeFault b f) stands))
-    ran o p plan events last end these short source run (Ran u q other more next also) stands =
-        let same = is_held u.name stands.bytes (named words u stands.said) stands.loaded.0 in
-        let typed : q ≡ p = one_source bytes q p (subst (λ (t : List ℕ). IsSource t q) same stands.source) source in
-        let meant : u ≡ o = one_meaning words u o stands.said these in
-        let second : IsRun p o other more next also = subst (λ (x : RunOptions). IsRun p x other more next also) meant (subst (λ (x : Typed). IsRun x u other more next also) typed stands.run) in
-        ap ending_status (one_ending p o other plan more events next last also end second run)
-
-  misworded : ((o : RunOptions) → IsRunOf words o → ⊥) → (found : Cause) → Stands words (MayGive files) found → status found ≡ 2
-  misworded never Misworded stands = refl
-  misworded never (Unread name) stands = absurd (never stands.0.options stands.0.said)
-  misworded never (TooLong name) stands = absurd (never stands.0.options stands.0.said)
-  misworded never (NoTokens name f) stands = absurd (never stands.named.options stands.named.said)
-  misworded never (NoProgram name f) stands = absurd (never stands.named.options stands.named.said)
-  misworded never (Untyped name f) stands = absurd (never stands.named.options stands.named.said)
-  misworded never (Ran o p plan events last end) stands = absurd (never o stands.said)
-
-  -- a cause by what is told decides the status of one that was found
-  decided : (cause found : Cause) → Stands words (Holds files) cause → Stands words (MayGive files) found → status found ≡ status cause
-  decided Misworded found stands other = misworded stands found other
-  decided (Unread name) found stands other = absurd stands.1
-  decided (TooLong name) found (said, (bytes, told, long)) other = refused name bytes said told (λ p short source. omega (arith, long, short)) found other
-  decided (NoTokens name f) found holds other = refused name holds.bytes holds.named holds.loaded.0 (λ p short source. lexes holds.bytes p f source holds.is_so) found other
-  decided (NoProgram name f) found holds other = refused name holds.bytes holds.named holds.loaded.0 (λ p short source. reads holds.bytes p f source holds.is_so) found other
-  decided (Untyped name f) found holds other = refused name holds.bytes holds.named holds.loaded.0 (λ p short source. types holds.bytes p f source holds.is_so) found other
-  decided (Ran o p plan events last end) found file other =
-      ran o.name file.bytes (named words o file.said) file.loaded.0 o p plan events last end file.said file.loaded.1 file.source file.run found other
+-- where no load fails, what it may have given is what it gives
+one_load : (files : LoadPort) → (HasFailedLoad files → ⊥) → Agree (MayGive files) (Holds files)
+one_load files none limit name (Loaded xs) (Loaded ys) (told, short) (held, short') = ap Loaded (told_is (files.holds name) xs ys told held)
+one_load files none limit name (Loaded xs) Exceeded (told, short) (ys, held, long) =
+    let same : ys ≡ xs = sym (told_is (files.holds name) xs ys told held) in
+    let over : limit < length xs = subst (λ (b : List ℕ). limit < length b) same long in
+    absurd (omega (arith, short, over))
+one_load files none limit name Exceeded (Loaded ys) long (held, short) =
+    let over : limit < length ys = told_long (files.holds name) limit ys long held in
+    absurd (omega (arith, short, over))
+one_load files none limit name Exceeded Exceeded long gives = refl
+one_load files none limit name Unloaded y rose gives = absurd (none rose)
+one_load files none limit name x Unloaded may gives = absurd gives
 
 pub decided_at : (words : List (List ℕ)) (files : LoadPort) (asks : AskPort) (out err : PutPort) (result : ℕ) → Ends words files asks out err result
     → (cause : Cause) → Stands words (Holds files) cause → NoneFailed files out err → (result ≡ status cause) ⊎ (result ≡ 8)
 decided_at words files asks out err result (inl (found, answers)) cause stands none =
-    inl (answers.is_status ∙ decided words files none.no_load cause found stands answers.arises.stands)
+    inl (answers.is_status ∙ one_status (MayGive files) (Holds files) (one_load files none.no_load) words found cause answers.arises.stands stands)
 decided_at words files asks out err result (inr (inl (is, inl failed, cut))) cause stands none = absurd (none.no_out failed)
 decided_at words files asks out err result (inr (inl (is, inr failed, cut))) cause stands none = absurd (none.no_err failed)
 decided_at words files asks out err result (inr (inr (is, cut))) cause stands none = inr is

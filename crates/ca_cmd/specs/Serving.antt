@@ -1,8 +1,16 @@
 -- What the top call answers and writes, by its words, what is told of the files, and what its puts did.
-use Rattle.std.specs.Prelude.{◌≡◌, ◌≤◌, ◌<◌, ◌⊎◌, ℕ, List, [], ◌++◌, length, IfSome, Some, Result, Ok, Err}
-use Rattle.ca_cmd.specs.Commands.{source_limit, NamesFiles, Load, Loaded, Exceeded, Unloaded, Cause, Unread, TooLong, NoTokens, NoProgram, Untyped, status, asked_names, out_text, err_text, memory_text, Stands}
-use Rattle.ca_cmd.specs.declared.refusals.Refusal.{Refusal}
+use Rattle.std.specs.Prelude.{◌≡◌, ◌≤◌, ◌<◌, ◌⊎◌, ℕ, Bool, false, List, [], ◌∷◌, ◌++◌, length, IfSome, Some, Result, Ok, Err}
+use Rattle.ca_model.specs.declared.plan.Plan.{Plan}
+use Rattle.ca_model.specs.declared.values.Event.{Event}
+use Rattle.ca_model.specs.Codes.{Typed}
+use Rattle.ca_model.specs.typing.Sources.{Source}
+use Rattle.ca_traces.specs.Readings.{LacksReading}
+use Rattle.ca_commands.specs.Words.{PlanOptions, Command, Means}
+use Rattle.ca_cmd.specs.Loads.{Loaded, Exceeded, Unloaded, Giving, trace_limit, HoldsSo}
+use Rattle.ca_cmd.specs.Hardening.{IsHardening, LacksSite, IsTableBy}
+use Rattle.ca_cmd.specs.Commands.{files_of, Cause, Refused, status, asked_names, out_text, err_text, memory_text, IsSourceIn, IsTraceIn, RefusesSource, Stands}
 use Rattle.ca_cmd.specs.declared.refusals.Refusal.TheVariants as refusal
+use Rattle.ca_cmd.specs.declared.refusals.TraceFault.TheVariants as trace_fault
 use Rattle.ca_cmd.specs.declared.refusals.ServeNo.{ServeNo}
 use Rattle.ca_cmd.specs.declared.refusals.ServeNo.TheVariants as serve_no
 use Rattle.ca_io.specs.Outside.{IsTold}
@@ -25,16 +33,16 @@ abbrev pub AskedPart : AskPort → List (List ℕ) → Type 0
 AskedPart p names = (front rest : List (List ℕ)) × (names ≡ front ++ rest) × Asked p front
 
 -- what the load of a name may have given: where its contents are told, they are these
-abbrev pub MayGive : LoadPort → List ℕ → Load → Type 0
-MayGive files name (Loaded bytes) = IsTold (files.holds name) bytes × (length bytes ≤ source_limit)
-MayGive files name Exceeded = IfSome (files.holds name) (λ bytes. source_limit < length bytes)
-MayGive files name Unloaded = HasFailedLoad files
+abbrev pub MayGive : LoadPort → Giving
+MayGive files limit name (Loaded bytes) = IsTold (files.holds name) bytes × (length bytes ≤ limit)
+MayGive files limit name Exceeded = IfSome (files.holds name) (λ bytes. limit < length bytes)
+MayGive files limit name Unloaded = HasFailedLoad files
 
 -- what the load of a name gives where its contents are told and no load fails
-abbrev pub Holds : LoadPort → List ℕ → Load → Type 0
-Holds files name (Loaded bytes) = (files.holds name ≡ Some bytes) × (length bytes ≤ source_limit)
-Holds files name Exceeded = (bytes : List ℕ) × (files.holds name ≡ Some bytes) × (source_limit < length bytes)
-Holds files name Unloaded = ⊥
+abbrev pub Holds : LoadPort → Giving
+Holds files limit name (Loaded bytes) = (files.holds name ≡ Some bytes) × (length bytes ≤ limit)
+Holds files limit name Exceeded = (bytes : List ℕ) × (files.holds name ≡ Some bytes) × (limit < length bytes)
+Holds files limit name Unloaded = ⊥
 
 -- the cause is there, and its names were asked for
 pub record Arises (words : List (List ℕ)) (files : LoadPort) (asks : AskPort) (cause : Cause) : Type 0 where
@@ -54,10 +62,16 @@ pub record Breaks (words : List (List ℕ)) (files : LoadPort) (asks : AskPort) 
   pub on_out : WrotePart out (out_text cause)
   pub on_err : WrotePart err (err_text cause) ⊎ WrotePart err memory_text
 
+-- of the files that the words name some were asked for, from the first on
+pub record AsksSome (words : List (List ℕ)) (asks : AskPort) : Type 0 where
+  pub command : Command
+  pub said : Means words command
+  pub asked : AskedPart asks (files_of command)
+
 -- memory ran out before it was known which cause is there: of the files that the words name some were asked for, or none since the words weren't known, and
 -- nothing was put to `out`
 pub record IsStarved (words : List (List ℕ)) (asks : AskPort) (out err : PutPort) : Type 0 where
-  pub asked : Asked asks [] ⊎ ((names : List (List ℕ)) × NamesFiles words names × AskedPart asks names)
+  pub asked : Asked asks [] ⊎ AsksSome words asks
   pub on_out : Wrote out []
   pub on_err : WrotePart err memory_text
 
@@ -79,19 +93,43 @@ Closes wanted text result p = ((result ≡ wanted) × Wrote p text) ⊎ (((resul
 abbrev pub Tells : Cause → ℕ → PutPort → Type 0
 Tells cause result p = Closes (status cause) (err_text cause) result p ⊎ Closes 8 memory_text result p
 
--- the cause that the refusal of a file is
-abbrev pub cause_of : List ℕ → Refusal → Cause
-cause_of name refusal.Unread = Unread name
-cause_of name refusal.TooLong = TooLong name
-cause_of name (refusal.NoTokens fault) = NoTokens name fault
-cause_of name (refusal.NoProgram fault) = NoProgram name fault
-cause_of name (refusal.Untyped fault) = Untyped name fault
+-- ---- a command is served
 
--- what serving the files that the words name answers: the status of a cause that puts nothing to `err` and whose text was put whole; a refusal, whose cause is
--- there; that a put of such a text failed; or that memory ran out, while the text was put or before a cause was known
-abbrev pub Serves : List (List ℕ) → LoadPort → AskPort → PutPort → List ℕ → Result ℕ ServeNo → Type 0
-Serves words files asks out name (Ok n) = (cause : Cause) × Arises words files asks cause × (n ≡ status cause) × Wrote out (out_text cause) × (err_text cause ≡ [])
-Serves words files asks out name (Err (serve_no.Refused r)) = Arises words files asks (cause_of name r) × Wrote out (out_text (cause_of name r))
-Serves words files asks out name (Err serve_no.Put) = (cause : Cause) × Arises words files asks cause × WrotePart out (out_text cause) × (err_text cause ≡ []) × HasFailed out
-Serves words files asks out name (Err serve_no.NoMemory) =
-    ((cause : Cause) × Arises words files asks cause × WrotePart out (out_text cause)) ⊎ ((names : List (List ℕ)) × NamesFiles words names × AskedPart asks names × Wrote out [])
+-- what the loading and reading of a source answers
+abbrev pub Opens : LoadPort → AskPort → List ℕ → Result Source ServeNo → Type 0
+Opens files asks name (Ok found) = IsSourceIn (MayGive files) name found × Asked asks (name ∷ [])
+Opens files asks name (Err (serve_no.Refused (refusal.Source f))) = RefusesSource (MayGive files) name f × Asked asks (name ∷ [])
+Opens files asks name (Err serve_no.NoMemory) = AskedPart asks (name ∷ [])
+Opens files asks name (Err _) = ⊥
+
+-- the making of its plan
+abbrev pub Hardens : Bool → PlanOptions → Typed → Result Plan ServeNo → Type 0
+Hardens plain o p (Ok plan) = IsHardening plain o p plan
+Hardens plain o p (Err (serve_no.Refused (refusal.NoSuchSite n))) = LacksSite plain o p n
+Hardens plain o p (Err serve_no.NoMemory) = Unit {0}
+Hardens plain o p (Err _) = ⊥
+
+-- the making of its table
+abbrev pub Tables : PlanOptions → Source → Result (List ℕ) ServeNo → Type 0
+Tables o x (Ok text) = IsTableBy o x text
+Tables o x (Err (serve_no.Refused (refusal.NoSuchSite n))) = LacksSite false o x.typed n
+Tables o x (Err serve_no.NoMemory) = Unit {0}
+Tables o x (Err _) = ⊥
+
+-- the loading and reading of a trace
+abbrev pub Traces : LoadPort → AskPort → List ℕ → Result (List Event) ServeNo → Type 0
+Traces files asks name (Ok events) = IsTraceIn (MayGive files) name events × Asked asks (name ∷ [])
+Traces files asks name (Err (serve_no.Refused (refusal.Trace trace_fault.Unread))) = MayGive files trace_limit name Unloaded × Asked asks (name ∷ [])
+Traces files asks name (Err (serve_no.Refused (refusal.Trace trace_fault.TooLong))) = MayGive files trace_limit name Exceeded × Asked asks (name ∷ [])
+Traces files asks name (Err (serve_no.Refused (refusal.Trace (trace_fault.NoLine line)))) = HoldsSo (MayGive files) trace_limit name (λ bytes. LacksReading bytes line) × Asked asks (name ∷ [])
+Traces files asks name (Err serve_no.NoMemory) = AskedPart asks (name ∷ [])
+Traces files asks name (Err _) = ⊥
+
+-- what serving a command answers: the status of a cause that puts nothing to `err` and whose text was put whole; a refusal, whose cause is there; that a put of
+-- such a text failed; or that memory ran out, while the text was put or before a cause was known
+abbrev pub Serves : List (List ℕ) → LoadPort → AskPort → PutPort → Command → Result ℕ ServeNo → Type 0
+Serves words files asks out c (Ok n) = (cause : Cause) × Arises words files asks cause × (n ≡ status cause) × Wrote out (out_text cause) × (err_text cause ≡ [])
+Serves words files asks out c (Err (serve_no.Refused r)) = Arises words files asks (Refused c r) × Wrote out []
+Serves words files asks out c (Err serve_no.Put) = (cause : Cause) × Arises words files asks cause × WrotePart out (out_text cause) × (err_text cause ≡ []) × HasFailed out
+Serves words files asks out c (Err serve_no.NoMemory) =
+    ((cause : Cause) × Arises words files asks cause × WrotePart out (out_text cause)) ⊎ (AskedPart asks (files_of c) × Wrote out [])

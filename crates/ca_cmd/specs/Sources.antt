@@ -9,7 +9,7 @@ use Rattle.ca_grammar.specs.Laws.{all_kept}
 use Rattle.ca_grammar.specs.Texts.{AProgram}
 use Rattle.ca_grammar.specs.Faults as reading
 use Rattle.ca_model.specs.declared.types.TypeFault.{TypeFault}
-use Rattle.ca_model.specs.Codes.{Typed}
+use Rattle.ca_model.specs.typing.Sources.{Source}
 use Rattle.ca_model.specs.typing.Typing as typing
 use Rattle.ca_model.specs.typing.Typing.{IsTyping}
 
@@ -19,11 +19,10 @@ pub record IsTextOf (a : Program) (bytes : List ℕ) : Type 0 where
   pub lexed : HasTokens bytes tokens
   pub read : IsProgram all_kept a tokens
 
--- an accepted source: a program that has a typing
-pub record IsSource (bytes : List ℕ) (p : Typed) : Type 0 where
-  pub program : Program
-  pub text : IsTextOf program bytes
-  pub typing : IsTyping program p
+-- an accepted source: a program with its typing
+pub record IsSource (bytes : List ℕ) (x : Source) : Type 0 where
+  pub text : IsTextOf x.program bytes
+  pub typing : IsTyping x.program x.typed
 
 -- tokens that are no program within the limits, with the first fault
 pub record HasReadFault (bytes : List ℕ) (f : ReadFault) : Type 0 where

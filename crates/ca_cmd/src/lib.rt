@@ -1,11 +1,14 @@
 //! The one call that does what the program does.
 #![tactic(auto)]
 
+mod check;
 mod command;
 mod fault_texts;
+mod hardening;
 mod reading;
 mod refusals;
 mod run;
+mod sites;
 
 pub use command::command_alone;
 pub use refusals::out_of_memory;

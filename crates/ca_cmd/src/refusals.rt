@@ -1,20 +1,25 @@
 // Refusals: their texts, put to one sink, and their statuses.
-ghost use Rattle.std.specs.Prelude.{◌≡◌, ◌⊎◌, ◌++◌, codes};
+ghost use Rattle.std.specs.Prelude.{◌≡◌, ◌⊎◌, ◌++◌, codes, get_or, []};
+ghost use Rattle.std.specs.Fmt.{decimal};
+ghost use Rattle.ca_model.specs.Traces.{line_end};
+ghost use Rattle.ca_commands.specs.Options.{command};
 ghost use Rattle.ca_cmd.specs.FaultTexts.{fault_at};
-ghost use Rattle.ca_cmd.specs.Commands.{message, memory_text};
+ghost use Rattle.ca_cmd.specs.Commands.{message, memory_text, source_of, traces_of, refusal_status, refusal_text, source_text, trace_text, Refused};
 ghost use Rattle.ca_io.specs.Ports.{put_port};
-ghost use Rattle.ca_cmd.specs.Serving.{Closes, Tells, cause_of};
+ghost use Rattle.ca_cmd.specs.Serving.{Closes, Tells};
+ghost use Rattle.ca_cmd.specs.declared.refusals.Refusal.TheVariants as refused;
 
 use crate::fault_texts::{lex_words, read_words, type_words};
+use ca_commands::CommandWords;
 use ca_grammar::ReadFault;
 use ca_io::{PutNo, Sink};
 use ca_model::TypeFault;
 use ca_tree::{LexFault, Pos};
 use std::alloc::{AllocError, Global};
 
-/// Why a file is refused.
+/// Why the file of a source is refused.
 #[derive(Clone, Copy, Debug, PartialEq, Eq)]
-pub enum Refusal {
+pub enum SourceFault {
     /// It could not be loaded.
     Unread,
     /// It is longer than the limit.
@@ -27,10 +32,34 @@ pub enum Refusal {
     Untyped(TypeFault),
 }
 
-/// Why a file was not served.
+/// Why the file of a trace is refused.
+#[derive(Clone, Copy, Debug, PartialEq, Eq)]
+pub enum TraceFault {
+    /// It could not be loaded.
+    Unread,
+    /// It is longer than the limit.
+    TooLong,
+    /// This line, counted from 1, is the first without a reading.
+    NoLine { line: u32 },
+    /// This entry, counted from 0, is the first that is no step.
+    NoStep { index: u32 },
+}
+
+/// Why a command is refused.
+#[derive(Clone, Copy, Debug, PartialEq, Eq)]
+pub enum Refusal {
+    /// By the file of its source.
+    Source(SourceFault),
+    /// This is the first of the numbers named that is no site's.
+    NoSuchSite { number: u32 },
+    /// By the file of its trace.
+    Trace(TraceFault),
+}
+
+/// Why a command was not served.
 #[derive(Clone, Copy, Debug, PartialEq, Eq)]
 pub enum ServeNo {
-    /// The file is refused, and nothing was put.
+    /// It is refused, and nothing was put.
     Refused(Refusal),
     /// A put failed.
     Put,
@@ -56,7 +85,7 @@ pub fn out_of_memory<E: Sink>(err: &mut E) -> u8
     close(err, 8, b"conair: out of memory\n")
 }
 
-// Puts the text of a refusal that names the file.
+// Puts the text of a refusal that names a file, or a number.
 fn tell<E: Sink>(alloc: Global, err: &mut E, status: u8, front: &str, name: &str, back: &str) -> u8
     ensures { Closes status (message front.now name.now back.now) result
         (put_port E.written E.faults err.old err.new)
@@ -82,13 +111,15 @@ fn tell_fault<E: Sink>(alloc: Global, err: &mut E, name: &str, pos: Pos, words: 
     }
 }
 
-/// Puts the text of a refusal, and answers its status.
-pub fn refuse<E: Sink>(alloc: Global, name: &str, refusal: Refusal, err: &mut E) -> u8
-    ensures { Tells (cause_of name.now refusal) result (put_port E.written E.faults err.old err.new) }
+// Puts the text of a source that is refused.
+fn tell_source<E: Sink>(alloc: Global, name: &str, fault: SourceFault, err: &mut E) -> u8
+    ensures { Closes (refusal_status (refused.Source fault)) (source_text name.now fault) result
+        (put_port E.written E.faults err.old err.new)
+        ⊎ Closes 8 memory_text result (put_port E.written E.faults err.old err.new) }
 {
-    match refusal {
-        Refusal::Unread => tell(alloc, err, 6, "conair: cannot read ", name, ""),
-        Refusal::TooLong => tell(
+    match fault {
+        SourceFault::Unread => tell(alloc, err, 6, "conair: cannot read ", name, ""),
+        SourceFault::TooLong => tell(
             alloc,
             err,
             3,
@@ -96,14 +127,116 @@ pub fn refuse<E: Sink>(alloc: Global, name: &str, refusal: Refusal, err: &mut E)
             name,
             ": longer than 1048576 bytes",
         ),
-        Refusal::NoTokens(fault) => tell_fault(alloc, err, name, fault.pos, lex_words(fault.kind)),
-        Refusal::NoProgram(fault) => tell_fault(
+        SourceFault::NoTokens(fault) => {
+            tell_fault(alloc, err, name, fault.pos, lex_words(fault.kind))
+        }
+        SourceFault::NoProgram(fault) => tell_fault(
             alloc,
             err,
             name,
             fault.pos,
             read_words(fault.kind),
         ),
-        Refusal::Untyped(fault) => tell_fault(alloc, err, name, fault.pos, type_words(fault.kind)),
+        SourceFault::Untyped(fault) => {
+            tell_fault(alloc, err, name, fault.pos, type_words(fault.kind))
+        }
+    }
+}
+
+// Puts the text of a trace that is refused at a line or an entry.
+fn tell_part<E: Sink>(
+    alloc: Global,
+    err: &mut E,
+    name: &str,
+    part: &str,
+    number: u64,
+    rest: &str,
+) -> u8
+    ensures { Closes 9 (message (codes "conair: ") name.now (part.now ++ (decimal number ++ rest.now))) result
+        (put_port E.written E.faults err.old err.new)
+        ⊎ Closes 8 memory_text result (put_port E.written E.faults err.old err.new) }
+{
+    match format!(in alloc; "{part}{number}{rest}") {
+        Ok(back) => tell(alloc, err, 9, "conair: ", name, back.as_str()),
+        Err(AllocError) => out_of_memory(err),
+    }
+}
+
+// Puts the text of a trace that is refused.
+fn tell_trace<E: Sink>(alloc: Global, name: &str, fault: TraceFault, err: &mut E) -> u8
+    ensures { Closes (refusal_status (refused.Trace fault)) (trace_text name.now fault) result
+        (put_port E.written E.faults err.old err.new)
+        ⊎ Closes 8 memory_text result (put_port E.written E.faults err.old err.new) }
+{
+    match fault {
+        TraceFault::Unread => tell(alloc, err, 6, "conair: cannot read ", name, ""),
+        TraceFault::TooLong => tell(
+            alloc,
+            err,
+            9,
+            "conair: ",
+            name,
+            ": longer than 268435456 bytes",
+        ),
+        TraceFault::NoLine { line } => tell_part(
+            alloc,
+            err,
+            name,
+            ": line ",
+            u64::from(line),
+            " is not a trace line",
+        ),
+        TraceFault::NoStep { index } => tell_part(
+            alloc,
+            err,
+            name,
+            ": entry ",
+            u64::from(index) + 1,
+            " is not a step",
+        ),
+    }
+}
+
+// Puts the text of a number that is no site's.
+fn tell_site<E: Sink>(alloc: Global, number: u32, err: &mut E) -> u8
+    ensures { Closes 2 (codes "conair: no site s" ++ (decimal number ++ line_end)) result
+        (put_port E.written E.faults err.old err.new)
+        ⊎ Closes 8 memory_text result (put_port E.written E.faults err.old err.new) }
+{
+    match format!(in alloc; "{number}") {
+        Ok(digits) => tell(alloc, err, 2, "conair: no site s", digits.as_str(), ""),
+        Err(AllocError) => out_of_memory(err),
+    }
+}
+
+// The file of the source that a command names.
+fn source_name(words: &CommandWords) -> &str
+    ensures { result.now ≡ source_of (command words.now) }
+{
+    match words {
+        CommandWords::Run(words) => words.name.as_str(),
+        CommandWords::Check(words) => words.name.as_str(),
+        CommandWords::Sites(words) => words.name.as_str(),
+    }
+}
+
+// The file of the trace that a command names; none is the empty word.
+fn trace_name(words: &CommandWords) -> &str
+    ensures { result.now ≡ get_or (traces_of (command words.now)) 0 [] }
+{
+    match words {
+        CommandWords::Check(words) => words.trace.as_str(),
+        CommandWords::Run(_) | CommandWords::Sites(_) => "",
+    }
+}
+
+/// Puts the text of a refusal, and answers its status.
+pub fn refuse<E: Sink>(alloc: Global, words: &CommandWords, refusal: Refusal, err: &mut E) -> u8
+    ensures { Tells (Refused (command words.now) refusal) result (put_port E.written E.faults err.old err.new) }
+{
+    match refusal {
+        Refusal::Source(fault) => tell_source(alloc, source_name(words), fault, err),
+        Refusal::NoSuchSite { number } => tell_site(alloc, number, err),
+        Refusal::Trace(fault) => tell_trace(alloc, trace_name(words), fault, err),
     }
 }

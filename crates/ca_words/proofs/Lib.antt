@@ -1,4 +1,0 @@
-pub mod Equals
-pub mod Meaning
-pub mod PartTexts
-pub mod OneMeaning

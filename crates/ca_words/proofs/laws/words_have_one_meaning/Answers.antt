@@ -1,5 +1,0 @@
-use Rattle.ca_words.proofs.OneMeaning.{one_meaning}
-use Rattle.ca_words.proofs.laws.words_have_one_meaning.Goals as goal
-
-pub returns : goal.returns
-returns c = one_meaning

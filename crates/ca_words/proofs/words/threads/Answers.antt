@@ -1,9 +1,0 @@
-use Rattle.std.proofs.Common.{◌≤◌, arith}
-use Rattle.ca_words.proofs.PartTexts.{part_at}
-use Rattle.ca_words.proofs.words.threads.Goals as goal
-
-pub returns-in_default-clause-none : goal.returns-in_default-clause-none
-returns-in_default-clause-none c = λ ts same small.
-    let at = part_at (λ p. p.now) c.args.parts.now ts c.parts.part-index _ same c.parts-test.true small in
-    let above : 0 ≤ at.0 = omega arith in
-    absurd (c.in_default.ensures.none at.0 (record { spelled = at.1; above = above; below = at.2 }))
