@@ -295,7 +295,7 @@ fn joined<'a>(
 }
 
 // The files are the source `a.c` and the trace `t.txt`.
-fn answer(
+fn call(
     alloc: Global,
     words: &[&str],
     more: &[&str],
@@ -339,7 +339,7 @@ fn failing(
 }
 
 fn answer_to(alloc: Global, words: &[&str], source: &[u8]) -> Result<Answer, Fail> {
-    answer(alloc, &["run", "a.c"], words, source, b"")
+    call(alloc, &["run", "a.c"], words, source, b"")
 }
 
 fn gives(rt: &impl Abort, alloc: Global, row: Row<'_>) -> Result<(), Fail> {
@@ -384,7 +384,7 @@ fn tells(
     wanted: (u8, &str, &str),
 ) -> Result<(), Fail> {
     let front = ["check", "a.c", "t.txt"];
-    let found = answer(alloc, &front, words, source, trace.as_bytes())?;
+    let found = call(alloc, &front, words, source, trace.as_bytes())?;
     assert_eq!(rt; found.out.as_slice(), wanted.1.as_bytes());
     assert_eq!(rt; found.err.as_slice(), wanted.2.as_bytes());
     assert_eq!(rt; found.status, wanted.0);
@@ -464,7 +464,7 @@ fn a_cut_report_is_refused(rt: HostRuntime) -> Result<(), Fail> {
             number += 1;
             let text = format!(in alloc; "conair: t.txt: line {number} is not a trace line\n")?;
             let front = ["check", "a.c", "t.txt"];
-            let found = answer(alloc, &front, &[], WATCH, &WATCHED.as_bytes()[..end + 1])?;
+            let found = call(alloc, &front, &[], WATCH, &WATCHED.as_bytes()[..end + 1])?;
             assert_eq!(&rt; found.err.as_slice(), text.as_str().as_bytes());
             assert_eq!(&rt; found.status, 9);
             assert_eq!(&rt; found.out.len(), 0);
@@ -517,7 +517,7 @@ const TABLES: [(&[&str], &[u8], &str); 8] = [
 #[test]
 fn sites_are_tabled(rt: HostRuntime) -> Result<(), Fail> {
     for (words, source, table) in TABLES {
-        let found = answer(rt.alloc(), &["sites", "a.c"], words, source, b"")?;
+        let found = call(rt.alloc(), &["sites", "a.c"], words, source, b"")?;
         assert_eq!(&rt; found.out.as_slice(), table.as_bytes());
         assert_eq!(&rt; found.err.len(), 0);
         assert_eq!(&rt; found.status, 0);
@@ -538,7 +538,7 @@ fn a_number_is_no_site(rt: HostRuntime) -> Result<(), Fail> {
         assert_eq!(&rt; run.status, 2);
         assert_eq!(&rt; run.out.len(), 0);
         tells(&rt, alloc, &["--only", only], WATCH, "", (2, "", text))?;
-        let sites = answer(alloc, &["sites", "a.c"], &["--only", only], WATCH, b"")?;
+        let sites = call(alloc, &["sites", "a.c"], &["--only", only], WATCH, b"")?;
         assert_eq!(&rt; sites.err.as_slice(), text.as_bytes());
         assert_eq!(&rt; sites.status, 2);
     }
@@ -675,7 +675,7 @@ fn a_buffer_under_ten_seeds(rt: HostRuntime) -> Result<(), Fail> {
         }
         for (plan, run) in [("--plain", &plain), ("--limit=10000", &hardened)] {
             let front = ["check", "a.c", "t.txt"];
-            let checked = answer(alloc, &front, &[plan], BOUNDED_BUFFER, &run.out)?;
+            let checked = call(alloc, &front, &[plan], BOUNDED_BUFFER, &run.out)?;
             assert_eq!(&rt; checked.status, 0);
         }
     }
