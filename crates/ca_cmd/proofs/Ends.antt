@@ -5,7 +5,7 @@ use Rattle.ca_model.specs.Reports.{ending_status}
 use Rattle.ca_model.specs.declared.values.Ending.{Ending}
 use Rattle.ca_model.specs.declared.values.Ending.TheVariants as ending
 use Rattle.ca_commands.specs.Words.{Command, Means}
-use Rattle.ca_cmd.specs.Commands.{Cause, Misworded, Refused, Ran, Accepted, Tabled, refusal_status, status, out_text, memory_text}
+use Rattle.ca_cmd.specs.Commands.{Cause, Misworded, Refused, Ran, Traced, Tabled, refusal_status, status, out_text, memory_text}
 use Rattle.ca_cmd.specs.declared.refusals.SourceFault.TheVariants as source_fault
 use Rattle.ca_cmd.specs.declared.refusals.TraceFault.TheVariants as trace_fault
 use Rattle.ca_cmd.specs.declared.refusals.Refusal.{Refusal}
@@ -55,12 +55,13 @@ apart_refusal (refusal.Trace trace_fault.Unread) = inl (omega arith)
 apart_refusal (refusal.Trace trace_fault.TooLong) = inr (omega arith)
 apart_refusal (refusal.Trace (trace_fault.NoLine line)) = inr (omega arith)
 apart_refusal (refusal.Trace (trace_fault.NoStep index)) = inr (omega arith)
+apart_refusal (refusal.Trace (trace_fault.Fault index)) = inr (omega arith)
 
 apart : (cause : Cause) → IsApart (status cause)
 apart Misworded = inl (omega arith)
 apart (Refused c r) = apart_refusal r
 apart (Ran o x plan events last end) = apart_ending end
-apart (Accepted o x plan events end) = inl (omega arith)
+apart (Traced c x plan events text) = inl (omega arith)
 apart (Tabled o x text) = inl (omega arith)
 
 not_cut : (n : ℕ) → IsApart n → (n ≡ 7) ⊎ (n ≡ 8) → ⊥

@@ -1,6 +1,8 @@
+pub mod Faithful
 pub mod Reporting
 pub mod Loading
 pub mod Refusing
+pub mod Making
 pub mod Ranges
 pub mod Putting
 pub mod Ends

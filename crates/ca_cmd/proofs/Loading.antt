@@ -1,5 +1,5 @@
 -- What is read of what was loaded, and two loads, one after the other.
-use Rattle.std.proofs.Common.{◌≡◌, ◌≤◌, ◌<◌, ℕ, List, [], ◌∷◌, ◌++◌, length, Option, Result, Err, refl, sym, ap, subst, arith, append_assoc, ◌∙◌}
+use Rattle.std.proofs.Common.{◌≡◌, ◌≤◌, ◌<◌, ℕ, List, [], ◌∷◌, ◌++◌, length, Option, Result, Err, refl, ap, subst, arith, append_assoc, ◌∙◌}
 use Rattle.std.specs.Prelude.{IfSome, Ok}
 use Rattle.ca_io.specs.Outside.{IsTold, Rose}
 use Rattle.ca_io.specs.Ports.{LoadPort, load_port}
@@ -42,6 +42,7 @@ module _ (files : LoadPort) (asks : AskPort) (name bytes text : List ℕ) (same 
   traced loaded (Err (serve_no.Refused (refusal.Trace trace_fault.Unread))) reads = absurd reads
   traced loaded (Err (serve_no.Refused (refusal.Trace trace_fault.TooLong))) reads = absurd reads
   traced loaded (Err (serve_no.Refused (refusal.Trace (trace_fault.NoStep index)))) reads = absurd reads
+  traced loaded (Err (serve_no.Refused (refusal.Trace (trace_fault.Fault index)))) reads = absurd reads
   traced loaded (Err (serve_no.Refused (refusal.Source f))) reads = absurd reads
   traced loaded (Err (serve_no.Refused (refusal.NoSuchSite n))) reads = absurd reads
   traced loaded (Err serve_no.Put) reads = absurd reads
@@ -85,6 +86,3 @@ module _ {F : Type 0} (holds : F → List ℕ → Option (List ℕ)) (faults : F
 
   pub asked_both : (xs ys : List (List ℕ)) → Asked first_asks xs → Asked second_asks ys → Asked both_asks (xs ++ ys)
   asked_both xs ys a b = b ∙ (ap (λ (t : List (List ℕ)). t ++ ys) a ∙ append_assoc (asked old) xs ys)
-
-  pub asked_some : (xs ys : List (List ℕ)) → Asked first_asks xs → AskedPart second_asks ys → AskedPart both_asks (xs ++ ys)
-  asked_some xs ys a (front, rest, is, b) = (xs ++ front, rest, ap (λ (t : List (List ℕ)). xs ++ t) is ∙ sym (append_assoc xs front rest), asked_both xs front a b)

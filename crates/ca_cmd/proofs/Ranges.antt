@@ -1,7 +1,7 @@
 -- The numbers that words say are within their ranges, and so are those that stand for them where they say none.
 use Rattle.std.proofs.Common.{◌≤◌, ℕ, List, [], ◌∷◌, Option, Some, None, arith}
 use Rattle.std.specs.Prelude.{unwrap_or}
-use Rattle.ca_commands.specs.Words.{IsNumber, IsRead, PlanOptions, RunOptions, Piece, SaysPlan, Command, Run, Check, Sites, Means}
+use Rattle.ca_commands.specs.Words.{IsNumber, IsRead, PlanOptions, RunOptions, Piece, SaysPlan, Command, Run, Check, Sites, Project, Lift, Means}
 use Rattle.ca_cmd.specs.Hardening.{wanted}
 use Rattle.ca_cmd.specs.Runs.{most_events}
 use Rattle.ca_cmd.specs.Commands.{said_of}
@@ -22,6 +22,8 @@ says_plan : (words : List (List ℕ)) (c : Command) (m : Means words c) → Says
 says_plan words (Run o) m = m.says.hardening.plan
 says_plan words (Check o) m = m.says.hardening.plan
 says_plan words (Sites o) m = m.says.plan
+says_plan words (Project o) m = m.says.plan
+says_plan words (Lift o) m = m.says.plan
 
 pub few_tries : (words : List (List ℕ)) (c : Command) → Means words c → (wanted (said_of c)).limit ≤ 10000
 few_tries words c m = said_limit m.pieces (said_of c) (says_plan words c m)

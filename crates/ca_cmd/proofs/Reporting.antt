@@ -8,26 +8,31 @@ use Rattle.ca_model.specs.Hardened.{Hardened, hardened}
 use Rattle.ca_model.specs.Machine.{State}
 use Rattle.ca_model.specs.Reports.{ending_status, report}
 use Rattle.ca_machine.specs.Machines.{rules}
+use Rattle.ca_shapes.specs.Laws.{EachProgramOfATextIsWritten}
 use Rattle.ca_commands.specs.Words.{RunOptions, Run, Means}
 use Rattle.ca_io.specs.Ports.{PutPort, LoadPort, Wrote, WrotePart, HasFailed}
 use Rattle.ca_cmd.specs.Hardening.{IsHardening}
 use Rattle.ca_cmd.specs.Runs.{IsRunAs}
-use Rattle.ca_cmd.specs.Commands.{Cause, Ran, out_text, IsSourceIn}
+use Rattle.ca_cmd.specs.Commands.{Cause, Ran, out_text, IsSourceIn, IsHardened}
 use Rattle.ca_cmd.specs.Serving.{AskPort, Asked, MayGive, Arises, Serves}
 use Rattle.ca_cmd.specs.declared.run.SourceRun.{SourceRun}
 use Rattle.ca_cmd.specs.declared.refusals.ServeNo.TheVariants as serve_no
+use Rattle.ca_cmd.proofs.Faithful.{faithful_run}
 
 -- the text that is put
 abbrev pub put_text : SourceRun → State Hardened → List ℕ
 put_text r last = report (rules r.machine) last r.machine.trace r.ending
 
-module _ (words : List (List ℕ)) (files : LoadPort) (asks : AskPort) (out : PutPort) (o : RunOptions) (r : SourceRun) (said : Means words (Run o)) (asked : Asked asks (o.name ∷ [])) (x : Source) (plan : Plan)
+module _ (written : EachProgramOfATextIsWritten) (words : List (List ℕ)) (files : LoadPort) (asks : AskPort) (out : PutPort) (o : RunOptions) (r : SourceRun) (said : Means words (Run o)) (asked : Asked asks (o.name ∷ [])) (x : Source) (plan : Plan)
     (source : IsSourceIn (MayGive files) o.name x) (hardening : IsHardening o.plain o.plan x.typed plan) (ran : IsRunAs x.typed plan o.runner r) where
   abbrev cause : Cause
   cause = Ran o x plan r.machine.trace ran.last r.ending
 
+  taken : IsHardened (MayGive files) (Run o) x plan
+  taken = record { source = source; hardening = hardening }
+
   arises : Arises words files asks cause
-  arises = record { stands = (said, record { source = source; hardening = hardening }, ran.run); asked = asked }
+  arises = record { stands = (said, taken, ran.run); asked = asked; faithful = faithful_run written (MayGive files) (Run o) x plan taken o r.machine.trace ran.last r.ending ran.run }
 
   -- the machine's own source and plan are these
   as_cause : (P : List ℕ → Type 0) → P (put_text r ran.last) → P (out_text cause)

@@ -1,5 +1,5 @@
 -- Where the contents of the files are told, the causes that are there have one status.
-use Rattle.std.proofs.Common.{◌≡◌, ◌<◌, ℕ, Bool, true, false, List, [], ◌∷◌, length, Option, Some, None, Contains, refl, sym, ap, subst, inl, inr, arith, ◌∙◌}
+use Rattle.std.proofs.Common.{◌≡◌, ◌<◌, ℕ, Bool, true, false, List, [], ◌∷◌, length, Option, Some, None, Err, Contains, refl, sym, ap, subst, inl, inr, arith, ◌∙◌}
 use Rattle.std.specs.Prelude.{◌⊎◌, IfSome, cond}
 use Rattle.std.proofs.lemmas.List.Elements.{Contains-append_right}
 use Rattle.ca_traces.specs.Readings.{IsReading}
@@ -16,10 +16,12 @@ use Rattle.ca_model.proofs.OnePlan.{one_plan}
 use Rattle.ca_model.proofs.RunnerRuns.{one_run}
 use Rattle.ca_model.proofs.RunnerStates.{opening_reached}
 use Rattle.ca_traces.proofs.OneReading.{one_list, not_both}
-use Rattle.ca_check.specs.Verdicts.{IsRunTo}
-use Rattle.ca_check.proofs.Passing.{no_run}
+use Rattle.ca_check.specs.declared.lifting.LiftNo.TheVariants as lift_no
+use Rattle.ca_check.specs.Verdicts.{IsFirstNoStep}
+use Rattle.ca_check.proofs.Answering.{only_list}
+use Rattle.ca_check.proofs.Passing.{no_way, no_run}
 use Rattle.ca_plan.specs.Planning.{AreSiteNumbers, named, options_of}
-use Rattle.ca_commands.specs.Words.{PlanOptions, RunnerOptions, CheckOptions, Command, Run, Check, Sites, Means}
+use Rattle.ca_commands.specs.Words.{PlanOptions, RunnerOptions, Command, Run, Check, Sites, Project, Lift, Means}
 use Rattle.ca_commands.proofs.OneMeaning.{one_meaning}
 use Rattle.ca_io.specs.Outside.{IsTold}
 use Rattle.ca_io.specs.Ports.{PutPort, LoadPort, HasFailedLoad}
@@ -32,7 +34,8 @@ use Rattle.ca_cmd.specs.Loads.{Load, Loaded, Exceeded, Unloaded, Giving, HoldsSo
 use Rattle.ca_cmd.specs.Hardening.{wanted, IsHardening, LacksSite}
 use Rattle.ca_cmd.specs.Sources.{IsSource}
 use Rattle.ca_cmd.specs.Runs.{IsRun, most_events, patience_of}
-use Rattle.ca_cmd.specs.Commands.{source_of, is_plain, said_of, Cause, Misworded, Refused, Ran, Accepted, Tabled, refusal_status, status, IsSourceIn, IsTraceIn, IsTraceRefused, RefusesSource, RefusesTrace, Stands}
+use Rattle.ca_cmd.specs.Traced.{followed, IsMade, IsUnliftable}
+use Rattle.ca_cmd.specs.Commands.{source_of, traces_of, is_plain, said_of, Cause, Misworded, Refused, Ran, Traced, Tabled, refusal_status, status, IsSourceIn, IsTraceIn, IsHardened, RefusesSource, RefusesTrace, Stands}
 use Rattle.ca_cmd.specs.Serving.{AskPort, MayGive, Holds, NoneFailed}
 use Rattle.ca_cmd.proofs.Ends.{Ends}
 use Rattle.ca_cmd.proofs.Sources.{one_source, lexes, reads, types}
@@ -44,19 +47,26 @@ abbrev HasSites : Bool → PlanOptions → Typed → Type 0
 HasSites true o p = Unit {0}
 HasSites false o p = AreSiteNumbers p (named o.only)
 
--- a trace is refused, or is a run
-abbrev OfTrace : Giving → CheckOptions → Typed → Plan → ℕ → Type 0
-OfTrace Gives o p plan n =
-    ((f : TraceFault) × RefusesTrace Gives p plan o.trace f × (n ≡ refusal_status (refusal.Trace f)))
-    ⊎ ((events : List Event) × (end : Ending) × IsTraceIn Gives o.trace events × IsRunTo p plan events end × (n ≡ 0))
+-- a trace is refused, or a text is made of it
+abbrev OfNamed : Giving → Command → Typed → Plan → ℕ → List ℕ → Type 0
+OfNamed Gives c p plan n name =
+    ((f : TraceFault) × RefusesTrace Gives c p plan name f × (n ≡ refusal_status (refusal.Trace f)))
+    ⊎ ((events : List Event) × (text : List ℕ) × IsTraceIn Gives name events × IsMade c p plan events text × (n ≡ 0))
 
--- behind an accepted source: its run, or what its trace is
+abbrev OfTrace : Giving → Command → Typed → Plan → ℕ → Type 0
+OfTrace Gives c p plan n = (name : List ℕ) × (traces_of c ≡ name ∷ []) × OfNamed Gives c p plan n name
+
+abbrev OfPlan : Giving → Command → Typed → ℕ → Type 0
+OfPlan Gives c p n = (plan : Plan) × IsHardening (is_plain c) (said_of c) p plan × OfTrace Gives c p plan n
+
+-- behind an accepted source: its run, its table, or what its trace is
 abbrev Behind : Giving → Command → Typed → ℕ → Type 0
 Behind Gives (Run o) p n =
     (plan : Plan) × (events : List Event) × (last : State Hardened) × (end : Ending) × IsHardening o.plain o.plan p plan × IsRun p o.runner plan events last end × (n ≡ ending_status end)
-Behind Gives (Check o) p n =
-    (plan : Plan) × IsHardening o.plain o.plan p plan × OfTrace Gives o p plan n
+Behind Gives (Check o) p n = OfPlan Gives (Check o) p n
 Behind Gives (Sites o) p n = n ≡ 0
+Behind Gives (Project o) p n = OfPlan Gives (Project o) p n
+Behind Gives (Lift o) p n = OfPlan Gives (Lift o) p n
 
 -- a source lacks a site that is named, or goes on
 abbrev OfSites : Giving → Command → Typed → ℕ → Type 0
@@ -72,13 +82,12 @@ has_sites : (plain : Bool) (o : PlanOptions) (p : Typed) (plan : Plan) → IsHar
 has_sites true o p plan h = tt
 has_sites false o p plan h = h.0
 
-trace_parts : (Gives : Giving) (c : Command) (f : TraceFault) → IsTraceRefused Gives c f → Parts Gives c (refusal_status (refusal.Trace f))
-trace_parts Gives (Run o) f t = absurd cc
-trace_parts Gives (Check o) f t =
-    let one : o.trace ∷ [] ≡ t.name ∷ [] = t.named in
-    let same : t.name ≡ o.trace = cc in
-    inr (t.source, t.taken.source, inr (has_sites o.plain o.plan t.source.typed t.plan t.taken.hardening, (t.plan, t.taken.hardening, inl (f, subst (λ name. RefusesTrace Gives t.source.typed t.plan name f) same t.refused, refl))))
-trace_parts Gives (Sites o) f t = absurd cc
+traced_parts : (Gives : Giving) (c : Command) (x : Source) (plan : Plan) (n : ℕ) → IsHardened Gives c x plan → OfTrace Gives c x.typed plan n → Parts Gives c n
+traced_parts Gives (Run o) x plan n taken (name, named, rest) = absurd cc
+traced_parts Gives (Check o) x plan n taken of = inr (x, taken.source, inr (has_sites o.plain o.plan x.typed plan taken.hardening, (plan, taken.hardening, of)))
+traced_parts Gives (Sites o) x plan n taken (name, named, rest) = absurd cc
+traced_parts Gives (Project o) x plan n taken of = inr (x, taken.source, inr (has_sites false o.plan x.typed plan taken.hardening, (plan, taken.hardening, of)))
+traced_parts Gives (Lift o) x plan n taken of = inr (x, taken.source, inr (has_sites false o.plan x.typed plan taken.hardening, (plan, taken.hardening, of)))
 
 -- words that are no command, or are one
 abbrev OfWords : List (List ℕ) → Giving → ℕ → Type 0
@@ -88,11 +97,10 @@ parts : (words : List (List ℕ)) (Gives : Giving) (a : Cause) → Stands words 
 parts words Gives Misworded never = inl (never, refl)
 parts words Gives (Refused c (refusal.Source f)) (said, refuses) = inr (c, said, inl (f, refuses, refl))
 parts words Gives (Refused c (refusal.NoSuchSite n)) (said, (x, source, lacks)) = inr (c, said, inr (x, source, inl (n, lacks, refl)))
-parts words Gives (Refused c (refusal.Trace f)) (said, refused) = inr (c, said, trace_parts Gives c f refused)
+parts words Gives (Refused c (refusal.Trace f)) (said, t) = inr (c, said, traced_parts Gives c t.source t.plan (refusal_status (refusal.Trace f)) t.taken (t.name, t.named, inl (f, t.refused, refl)))
 parts words Gives (Ran o x plan events last end) (said, taken, run) =
     inr (Run o, said, inr (x, taken.source, inr (has_sites o.plain o.plan x.typed plan taken.hardening, (plan, events, last, end, taken.hardening, run, refl))))
-parts words Gives (Accepted o x plan events end) (said, taken, trace, run) =
-    inr (Check o, said, inr (x, taken.source, inr (has_sites o.plain o.plan x.typed plan taken.hardening, (plan, taken.hardening, inr (events, end, trace, run, refl)))))
+parts words Gives (Traced c x plan events text) (said, g, made) = inr (c, said, traced_parts Gives c x plan 0 g.taken (g.name, g.named, inr (events, text, g.trace, made, refl)))
 parts words Gives (Tabled o x text) (said, source, (sites, table)) = inr (Sites o, said, inr (x, source, inr (sites, refl)))
 
 -- ---- what is one
@@ -122,11 +130,27 @@ source_load Gives name (source_fault.NoTokens f) h = (Loaded h.bytes, h.loaded, 
 source_load Gives name (source_fault.NoProgram f) h = (Loaded h.bytes, h.loaded, refl)
 source_load Gives name (source_fault.Untyped f) h = (Loaded h.bytes, h.loaded, refl)
 
-trace_load : (Gives : Giving) (p : Typed) (plan : Plan) (name : List ℕ) (f : TraceFault) → RefusesTrace Gives p plan name f → (l : Load) × Gives trace_limit name l × (refusal_status (refusal.Trace f) ≡ cond (is_unloaded l) 6 9)
-trace_load Gives p plan name trace_fault.Unread gives = (Unloaded, gives, refl)
-trace_load Gives p plan name trace_fault.TooLong gives = (Exceeded, gives, refl)
-trace_load Gives p plan name (trace_fault.NoLine line) h = (Loaded h.bytes, h.loaded, refl)
-trace_load Gives p plan name (trace_fault.NoStep index) (events, h, none) = (Loaded h.bytes, h.loaded, refl)
+trace_load : (Gives : Giving) (c : Command) (p : Typed) (plan : Plan) (name : List ℕ) (f : TraceFault) → RefusesTrace Gives c p plan name f → (l : Load) × Gives trace_limit name l × (refusal_status (refusal.Trace f) ≡ cond (is_unloaded l) 6 9)
+trace_load Gives c p plan name trace_fault.Unread gives = (Unloaded, gives, refl)
+trace_load Gives c p plan name trace_fault.TooLong gives = (Exceeded, gives, refl)
+trace_load Gives c p plan name (trace_fault.NoLine line) h = (Loaded h.bytes, h.loaded, refl)
+trace_load Gives c p plan name (trace_fault.NoStep index) (events, h, none) = (Loaded h.bytes, h.loaded, refl)
+trace_load Gives c p plan name (trace_fault.Fault index) (events, h, there) = (Loaded h.bytes, h.loaded, refl)
+
+-- of entries of which a text is made, each is a step, and none stands in the way
+made_or_no_step : (c : Command) (p : Typed) (plan : Plan) (events : List Event) (index : ℕ) (text : List ℕ) → IsMade c p plan events text → IsFirstNoStep p (followed c plan) events index → ⊥
+made_or_no_step (Run o) p plan events index text made none = made
+made_or_no_step (Check o) p plan events index text (end, run, is) none = no_run p plan events end index run none
+made_or_no_step (Sites o) p plan events index text made none = made
+made_or_no_step (Project o) p plan events index text ((s, run), is) none = no_way p plan events s index run none
+made_or_no_step (Lift o) p plan events index text (list, lift, is) none = elim (only_list p plan events list (Err (lift_no.NotARun index)) none lift) [ inl same ↦ absurd cc | inr same ↦ absurd cc ]
+
+made_or_fault : (c : Command) (p : Typed) (plan : Plan) (events : List Event) (index : ℕ) (text : List ℕ) → IsMade c p plan events text → IsUnliftable c p events index → ⊥
+made_or_fault (Run o) p plan events index text made there = there
+made_or_fault (Check o) p plan events index text made there = there
+made_or_fault (Sites o) p plan events index text made there = there
+made_or_fault (Project o) p plan events index text made there = there
+made_or_fault (Lift o) p plan events index text (list, lift, is) there = elim (only_list p plan events list (Err (lift_no.Fault index)) there lift) [ inl same ↦ absurd cc | inr same ↦ absurd cc ]
 
 -- loads that agree
 abbrev Agree : Giving → Giving → Type 0
@@ -154,13 +178,15 @@ module _ (G H : Giving) (agree : Agree G H) where
   taken_or_refused name x (source_fault.NoProgram f) a b = reads b.bytes x f (subst (λ (t : List ℕ). IsSource t x) (same_bytes source_limit name _ _ a b) a.is_so) b.is_so
   taken_or_refused name x (source_fault.Untyped f) a b = types b.bytes x f (subst (λ (t : List ℕ). IsSource t x) (same_bytes source_limit name _ _ a b) a.is_so) b.is_so
 
-  trace_or_refused : (name : List ℕ) (p : Typed) (plan : Plan) (f : TraceFault) (events : List Event) (end : Ending) → IsTraceIn G name events → IsRunTo p plan events end → RefusesTrace H p plan name f → ⊥
-  trace_or_refused name p plan trace_fault.Unread events end a run b = let e = agree trace_limit name (Loaded a.bytes) Unloaded a.loaded b in absurd cc
-  trace_or_refused name p plan trace_fault.TooLong events end a run b = let e = agree trace_limit name (Loaded a.bytes) Exceeded a.loaded b in absurd cc
-  trace_or_refused name p plan (trace_fault.NoLine line) events end a run b =
+  made_or_refused : (c : Command) (name : List ℕ) (p : Typed) (plan : Plan) (f : TraceFault) (events : List Event) (text : List ℕ) → IsTraceIn G name events → IsMade c p plan events text → RefusesTrace H c p plan name f → ⊥
+  made_or_refused c name p plan trace_fault.Unread events text a made b = let e = agree trace_limit name (Loaded a.bytes) Unloaded a.loaded b in absurd cc
+  made_or_refused c name p plan trace_fault.TooLong events text a made b = let e = agree trace_limit name (Loaded a.bytes) Exceeded a.loaded b in absurd cc
+  made_or_refused c name p plan (trace_fault.NoLine line) events text a made b =
       not_both b.bytes events line (subst (λ (t : List ℕ). IsReading t events) (same_bytes trace_limit name _ _ a b) a.is_so) b.is_so
-  trace_or_refused name p plan (trace_fault.NoStep index) events end a run (more, b, none) =
-      no_run p plan more end index (subst (λ (es : List Event). IsRunTo p plan es end) (same_trace name events more a b) run) none
+  made_or_refused c name p plan (trace_fault.NoStep index) events text a made (more, b, none) =
+      made_or_no_step c p plan more index text (subst (λ (es : List Event). IsMade c p plan es text) (same_trace name events more a b) made) none
+  made_or_refused c name p plan (trace_fault.Fault index) events text a made (more, b, there) =
+      made_or_fault c p plan more index text (subst (λ (es : List Event). IsMade c p plan es text) (same_trace name events more a b) made) there
 
 -- ---- one status
 
@@ -168,27 +194,34 @@ by_load : (n m : ℕ) (x y : Load) (a b : ℕ) → x ≡ y → n ≡ cond (is_un
 by_load n m x y a b same one other = one ∙ (ap (λ (l : Load). cond (is_unloaded l) a b) same ∙ sym other)
 
 module _ (G H : Giving) (agree : Agree G H) where
+  one_trace : (c : Command) (p : Typed) (plan : Plan) (n m : ℕ) → OfTrace G c p plan n → OfTrace H c p plan m → n ≡ m
+  one_trace c p plan n m (name, named, a) (other, also, b) = which a (subst (OfNamed H c p plan m) same b)
+    where
+      same : other ≡ name
+      same = let both : other ∷ [] ≡ name ∷ [] = sym also ∙ named in cc
+
+      which : OfNamed G c p plan n name → OfNamed H c p plan m name → n ≡ m
+      which (inl (f, refused, is)) (inl (g, refused', is')) =
+          let x = trace_load G c p plan name f refused in
+          let y = trace_load H c p plan name g refused' in
+          by_load n m x.0 y.0 6 9 (agree trace_limit name x.0 y.0 x.1 y.1) (is ∙ x.2) (is' ∙ y.2)
+      which (inl (f, refused, is)) (inr (events, text, trace, made, is')) = absurd (made_or_refused H G (other_way G H agree) c name p plan f events text trace made refused)
+      which (inr (events, text, trace, made, is)) (inl (g, refused, is')) = absurd (made_or_refused G H agree c name p plan g events text trace made refused)
+      which (inr (events, text, trace, made, is)) (inr (more, also', trace', made', is')) = is ∙ sym is'
+
+  of_plan : (c : Command) (p : Typed) (n m : ℕ) → OfPlan G c p n → OfPlan H c p m → n ≡ m
+  of_plan c p n m (plan, hard, a) (other, hard', b) =
+      one_trace c p plan n m a (subst (λ (q : Plan). OfTrace H c p q m) (one_hardening (is_plain c) (said_of c) p other plan hard' hard) b)
+
   one_behind : (c : Command) (p : Typed) (n m : ℕ) → Behind G c p n → Behind H c p m → n ≡ m
   one_behind (Run o) p n m (plan, events, last, end, hard, run, is) (other, more, next, also, hard', run', is') =
       let same : other ≡ plan = one_hardening o.plain o.plan p other plan hard' hard in
       let second = subst (λ (q : Plan). IsRun p o.runner q more next also) same run' in
       is ∙ (ap ending_status (one_ending p o.runner plan events more last next end also run second) ∙ sym is')
-  one_behind (Check o) p n m (plan, hard, a) (other, hard', b) = which a b
-    where
-      same : other ≡ plan
-      same = one_hardening o.plain o.plan p other plan hard' hard
-
-      which : OfTrace G o p plan n → OfTrace H o p other m → n ≡ m
-      which (inl (f, refused, is)) (inl (g, refused', is')) =
-          let x = trace_load G p plan o.trace f refused in
-          let y = trace_load H p other o.trace g refused' in
-          by_load n m x.0 y.0 6 9 (agree trace_limit o.trace x.0 y.0 x.1 y.1) (is ∙ x.2) (is' ∙ y.2)
-      which (inl (f, refused, is)) (inr (events, end, trace, run, is')) =
-          absurd (trace_or_refused H G (other_way G H agree) o.trace p plan f events end trace (subst (λ (q : Plan). IsRunTo p q events end) same run) refused)
-      which (inr (events, end, trace, run, is)) (inl (g, refused, is')) =
-          absurd (trace_or_refused G H agree o.trace p plan g events end trace run (subst (λ (q : Plan). RefusesTrace H p q o.trace g) same refused))
-      which (inr (events, end, trace, run, is)) (inr (more, also, trace', run', is')) = is ∙ sym is'
+  one_behind (Check o) p n m a b = of_plan (Check o) p n m a b
   one_behind (Sites o) p n m a b = a ∙ sym b
+  one_behind (Project o) p n m a b = of_plan (Project o) p n m a b
+  one_behind (Lift o) p n m a b = of_plan (Lift o) p n m a b
 
   one_part : (c : Command) (n m : ℕ) → Parts G c n → Parts H c m → n ≡ m
   one_part c n m (inl (f, a, is)) (inl (g, b, is')) =

@@ -1,6 +1,6 @@
 -- What a command does: the files that it names, and the causes of an answer. Each cause has one status, the names that are asked for, its texts on `out` and
 -- `err`, and where it stands.
-use Rattle.std.specs.Prelude.{◌≡◌, ◌+◌, ℕ, Bool, false, List, [], ◌∷◌, ◌++◌, length, get_or, codes}
+use Rattle.std.specs.Prelude.{◌≡◌, ◌+◌, ℕ, Bool, false, List, [], ◌∷◌, ◌++◌, get_or, codes}
 use Rattle.std.specs.Fmt.{decimal}
 use Rattle.ca_tree.specs.Lexed.{HasFault}
 use Rattle.ca_model.specs.declared.plan.Plan.{Plan}
@@ -11,10 +11,10 @@ use Rattle.ca_model.specs.typing.Sources.{Source}
 use Rattle.ca_model.specs.Hardened.{Hardened, hardened}
 use Rattle.ca_model.specs.Machine.{State}
 use Rattle.ca_model.specs.Traces.{line_end}
-use Rattle.ca_model.specs.Reports.{ending_text, ending_status, report}
+use Rattle.ca_model.specs.Reports.{ending_status, report}
 use Rattle.ca_traces.specs.Readings.{IsReading, LacksReading}
-use Rattle.ca_check.specs.Verdicts.{IsRunTo, IsFirstNoStep}
-use Rattle.ca_commands.specs.Words.{PlanOptions, RunOptions, CheckOptions, SitesOptions, Command, Run, Check, Sites, Means}
+use Rattle.ca_check.specs.Verdicts.{IsFirstNoStep}
+use Rattle.ca_commands.specs.Words.{PlanOptions, RunOptions, SitesOptions, Command, Run, Check, Sites, Project, Lift, Means}
 use Rattle.ca_cmd.specs.declared.refusals.SourceFault.{SourceFault}
 use Rattle.ca_cmd.specs.declared.refusals.SourceFault.TheVariants as source_fault
 use Rattle.ca_cmd.specs.declared.refusals.TraceFault.{TraceFault}
@@ -26,6 +26,7 @@ use Rattle.ca_cmd.specs.Sources.{IsSource, HasReadFault, HasTypeFault}
 use Rattle.ca_cmd.specs.Loads.{source_limit, trace_limit, Exceeded, Unloaded, Giving, HoldsSo}
 use Rattle.ca_cmd.specs.Hardening.{IsHardening, LacksSite, IsTableBy}
 use Rattle.ca_cmd.specs.Runs.{IsRun}
+use Rattle.ca_cmd.specs.Traced.{followed, IsMade, IsUnliftable}
 
 -- ---- what a command names
 
@@ -34,12 +35,19 @@ abbrev pub source_of : Command → List ℕ
 source_of (Run o) = o.name
 source_of (Check o) = o.name
 source_of (Sites o) = o.name
+source_of (Project o) = o.name
+source_of (Lift o) = o.name
 
 -- that of its trace, where it has one
 abbrev pub traces_of : Command → List (List ℕ)
 traces_of (Run o) = []
 traces_of (Check o) = o.trace ∷ []
 traces_of (Sites o) = []
+traces_of (Project o) = o.trace ∷ []
+traces_of (Lift o) = o.trace ∷ []
+
+abbrev pub HasTrace : Command → Type 0
+HasTrace c = (name : List ℕ) × (traces_of c ≡ name ∷ [])
 
 -- all its files, in the order in which they are loaded
 abbrev pub files_of : Command → List (List ℕ)
@@ -50,11 +58,15 @@ abbrev pub is_plain : Command → Bool
 is_plain (Run o) = o.plain
 is_plain (Check o) = o.plain
 is_plain (Sites o) = false
+is_plain (Project o) = false
+is_plain (Lift o) = false
 
 abbrev pub said_of : Command → PlanOptions
 said_of (Run o) = o.plan
 said_of (Check o) = o.plan
 said_of (Sites o) = o.plan
+said_of (Project o) = o.plan
+said_of (Lift o) = o.plan
 
 -- ---- causes
 
@@ -63,7 +75,7 @@ pub data Cause : Type 0 where
   Misworded : Cause
   Refused : (c : Command) (r : Refusal) → Cause
   Ran : (o : RunOptions) (x : Source) (plan : Plan) (events : List Event) (last : State Hardened) (end : Ending) → Cause
-  Accepted : (o : CheckOptions) (x : Source) (plan : Plan) (events : List Event) (end : Ending) → Cause
+  Traced : (c : Command) (x : Source) (plan : Plan) (events : List Event) (text : List ℕ) → Cause
   Tabled : (o : SitesOptions) (x : Source) (text : List ℕ) → Cause
 
 abbrev pub refusal_status : Refusal → ℕ
@@ -77,7 +89,7 @@ abbrev pub status : Cause → ℕ
 status Misworded = 2
 status (Refused c r) = refusal_status r
 status (Ran o x plan events last end) = ending_status end
-status (Accepted o x plan events end) = 0
+status (Traced c x plan events text) = 0
 status (Tabled o x text) = 0
 
 -- the names that are asked for, in order: where a trace is refused, that of the trace too
@@ -90,21 +102,17 @@ abbrev pub asked_names : Cause → List (List ℕ)
 asked_names Misworded = []
 asked_names (Refused c r) = refused_names c r
 asked_names (Ran o x plan events last end) = files_of (Run o)
-asked_names (Accepted o x plan events end) = files_of (Check o)
+asked_names (Traced c x plan events text) = files_of c
 asked_names (Tabled o x text) = files_of (Sites o)
 
 -- ---- texts
-
--- `accepted <n> <word>`
-abbrev pub accepted_text : ℕ → Ending → List ℕ
-accepted_text n end = codes "accepted " ++ (decimal n ++ (codes " " ++ (ending_text end ++ line_end)))
 
 -- a refusal writes nothing to `out`
 abbrev pub out_text : Cause → List ℕ
 out_text Misworded = []
 out_text (Refused c r) = []
 out_text (Ran o x plan events last end) = report (hardened (code_of x.typed plan)) last events end
-out_text (Accepted o x plan events end) = accepted_text (length events) end
+out_text (Traced c x plan events text) = text
 out_text (Tabled o x text) = text
 
 -- a text that names the file
@@ -124,6 +132,7 @@ trace_text name trace_fault.Unread = message (codes "conair: cannot read ") name
 trace_text name trace_fault.TooLong = message (codes "conair: ") name (codes ": longer than 268435456 bytes")
 trace_text name (trace_fault.NoLine line) = message (codes "conair: ") name (codes ": line " ++ (decimal line ++ codes " is not a trace line"))
 trace_text name (trace_fault.NoStep index) = message (codes "conair: ") name (codes ": entry " ++ (decimal (index + 1) ++ codes " is not a step"))
+trace_text name (trace_fault.Fault index) = message (codes "conair: ") name (codes ": entry " ++ (decimal (index + 1) ++ codes " is a fault"))
 
 abbrev pub refusal_text : Command → Refusal → List ℕ
 refusal_text c (refusal.Source f) = source_text (source_of c) f
@@ -135,7 +144,7 @@ abbrev pub err_text : Cause → List ℕ
 err_text Misworded = codes "conair: words not understood" ++ line_end
 err_text (Refused c r) = refusal_text c r
 err_text (Ran o x plan events last end) = []
-err_text (Accepted o x plan events end) = []
+err_text (Traced c x plan events text) = []
 err_text (Tabled o x text) = []
 
 -- the text on `err` where memory is wanted, which may come at any place
@@ -164,12 +173,13 @@ RefusesSource Gives name (source_fault.NoTokens f) = HoldsSo Gives source_limit 
 RefusesSource Gives name (source_fault.NoProgram f) = HoldsSo Gives source_limit name (λ bytes. HasReadFault bytes f)
 RefusesSource Gives name (source_fault.Untyped f) = HoldsSo Gives source_limit name (λ bytes. HasTypeFault bytes f)
 
--- as a trace of a source under a plan
-abbrev pub RefusesTrace : Giving → Typed → Plan → List ℕ → TraceFault → Type 0
-RefusesTrace Gives p plan name trace_fault.Unread = Gives trace_limit name Unloaded
-RefusesTrace Gives p plan name trace_fault.TooLong = Gives trace_limit name Exceeded
-RefusesTrace Gives p plan name (trace_fault.NoLine line) = HoldsSo Gives trace_limit name (λ bytes. LacksReading bytes line)
-RefusesTrace Gives p plan name (trace_fault.NoStep index) = (events : List Event) × IsTraceIn Gives name events × IsFirstNoStep p plan events index
+-- as a trace of a source under a plan, by a command
+abbrev pub RefusesTrace : Giving → Command → Typed → Plan → List ℕ → TraceFault → Type 0
+RefusesTrace Gives c p plan name trace_fault.Unread = Gives trace_limit name Unloaded
+RefusesTrace Gives c p plan name trace_fault.TooLong = Gives trace_limit name Exceeded
+RefusesTrace Gives c p plan name (trace_fault.NoLine line) = HoldsSo Gives trace_limit name (λ bytes. LacksReading bytes line)
+RefusesTrace Gives c p plan name (trace_fault.NoStep index) = (events : List Event) × IsTraceIn Gives name events × IsFirstNoStep p (followed c plan) events index
+RefusesTrace Gives c p plan name (trace_fault.Fault index) = (events : List Event) × IsTraceIn Gives name events × IsUnliftable c p events index
 
 -- the trace of a command is refused, and its source isn't
 pub record IsTraceRefused (Gives : Giving) (c : Command) (f : TraceFault) : Type 0 where
@@ -178,7 +188,14 @@ pub record IsTraceRefused (Gives : Giving) (c : Command) (f : TraceFault) : Type
   pub taken : IsHardened Gives c source plan
   pub name : List ℕ
   pub named : traces_of c ≡ name ∷ []
-  pub refused : RefusesTrace Gives source.typed plan name f
+  pub refused : RefusesTrace Gives c source.typed plan name f
+
+-- the source of a command, its plan, and the entries of its trace
+pub record IsGiven (Gives : Giving) (c : Command) (x : Source) (plan : Plan) (events : List Event) : Type 0 where
+  pub taken : IsHardened Gives c x plan
+  pub name : List ℕ
+  pub named : traces_of c ≡ name ∷ []
+  pub trace : IsTraceIn Gives name events
 
 abbrev pub Refuses : Giving → Command → Refusal → Type 0
 Refuses Gives c (refusal.Source f) = RefusesSource Gives (source_of c) f
@@ -190,5 +207,5 @@ abbrev pub Stands : List (List ℕ) → Giving → Cause → Type 0
 Stands words Gives Misworded = (c : Command) → Means words c → ⊥
 Stands words Gives (Refused c r) = Means words c × Refuses Gives c r
 Stands words Gives (Ran o x plan events last end) = Means words (Run o) × IsHardened Gives (Run o) x plan × IsRun x.typed o.runner plan events last end
-Stands words Gives (Accepted o x plan events end) = Means words (Check o) × IsHardened Gives (Check o) x plan × IsTraceIn Gives o.trace events × IsRunTo x.typed plan events end
+Stands words Gives (Traced c x plan events text) = Means words c × IsGiven Gives c x plan events × IsMade c x.typed plan events text
 Stands words Gives (Tabled o x text) = Means words (Sites o) × IsSourceIn Gives o.name x × IsTableBy o.plan x text

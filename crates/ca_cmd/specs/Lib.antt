@@ -4,5 +4,7 @@ pub mod Loads
 pub mod Reading
 pub mod Hardening
 pub mod Runs
+pub mod Traced
 pub mod Commands
+pub mod Faithful
 pub mod Serving

@@ -5,12 +5,16 @@ use Rattle.ca_model.specs.declared.values.Event.{Event}
 use Rattle.ca_model.specs.Codes.{Typed}
 use Rattle.ca_model.specs.typing.Sources.{Source}
 use Rattle.ca_traces.specs.Readings.{LacksReading}
+use Rattle.ca_check.specs.Verdicts.{IsFirstNoStep}
 use Rattle.ca_commands.specs.Words.{PlanOptions, Command, Means}
 use Rattle.ca_cmd.specs.Loads.{Loaded, Exceeded, Unloaded, Giving, trace_limit, HoldsSo}
 use Rattle.ca_cmd.specs.Hardening.{IsHardening, LacksSite, IsTableBy}
-use Rattle.ca_cmd.specs.Commands.{files_of, Cause, Refused, status, asked_names, out_text, err_text, memory_text, IsSourceIn, IsTraceIn, RefusesSource, Stands}
+use Rattle.ca_cmd.specs.Traced.{followed, IsMade, IsUnliftable}
+use Rattle.ca_cmd.specs.Commands.{files_of, Cause, Refused, status, asked_names, out_text, err_text, memory_text, IsSourceIn, IsTraceIn, IsGiven, RefusesSource, Stands}
+use Rattle.ca_cmd.specs.Faithful.{IsFaithful}
 use Rattle.ca_cmd.specs.declared.refusals.Refusal.TheVariants as refusal
 use Rattle.ca_cmd.specs.declared.refusals.TraceFault.TheVariants as trace_fault
+use Rattle.ca_cmd.specs.declared.traced.Prepared.{Prepared}
 use Rattle.ca_cmd.specs.declared.refusals.ServeNo.{ServeNo}
 use Rattle.ca_cmd.specs.declared.refusals.ServeNo.TheVariants as serve_no
 use Rattle.ca_io.specs.Outside.{IsTold}
@@ -44,10 +48,11 @@ Holds files limit name (Loaded bytes) = (files.holds name ≡ Some bytes) × (le
 Holds files limit name Exceeded = (bytes : List ℕ) × (files.holds name ≡ Some bytes) × (limit < length bytes)
 Holds files limit name Unloaded = ⊥
 
--- the cause is there, and its names were asked for
+-- the cause is there, its names were asked for, and hardening has added nothing to it
 pub record Arises (words : List (List ℕ)) (files : LoadPort) (asks : AskPort) (cause : Cause) : Type 0 where
   pub stands : Stands words (MayGive files) cause
   pub asked : Asked asks (asked_names cause)
+  pub faithful : IsFaithful cause
 
 -- the cause is there, this is its status, its names were asked for, and its texts were put whole
 pub record Answers (words : List (List ℕ)) (files : LoadPort) (asks : AskPort) (out err : PutPort) (cause : Cause) (result : ℕ) : Type 0 where
@@ -124,6 +129,38 @@ Traces files asks name (Err (serve_no.Refused (refusal.Trace trace_fault.TooLong
 Traces files asks name (Err (serve_no.Refused (refusal.Trace (trace_fault.NoLine line)))) = HoldsSo (MayGive files) trace_limit name (λ bytes. LacksReading bytes line) × Asked asks (name ∷ [])
 Traces files asks name (Err serve_no.NoMemory) = AskedPart asks (name ∷ [])
 Traces files asks name (Err _) = ⊥
+
+-- why the text of a command isn't made: a refusal, whose cause is there, or want of memory
+abbrev pub Stops : List (List ℕ) → LoadPort → AskPort → Command → ServeNo → Type 0
+Stops words files asks c (serve_no.Refused r) = Arises words files asks (Refused c r)
+Stops words files asks c serve_no.Put = ⊥
+Stops words files asks c serve_no.NoMemory = AskedPart asks (files_of c)
+
+-- the source of a command with its plan, and the entries of its trace
+abbrev pub Prepares : List (List ℕ) → LoadPort → AskPort → Command → Result Prepared ServeNo → Type 0
+Prepares words files asks c (Ok g) = IsGiven (MayGive files) c g.checked g.plan g.events × Asked asks (files_of c)
+Prepares words files asks c (Err why) = Stops words files asks c why
+
+-- the making of a text of them
+abbrev pub Transforms : Command → Typed → Plan → List Event → Result (List ℕ) ServeNo → Type 0
+Transforms c p plan events (Ok text) = IsMade c p plan events text
+Transforms c p plan events (Err (serve_no.Refused (refusal.Trace (trace_fault.NoStep index)))) = IsFirstNoStep p (followed c plan) events index
+Transforms c p plan events (Err (serve_no.Refused (refusal.Trace (trace_fault.Fault index)))) = IsUnliftable c p events index
+Transforms c p plan events (Err serve_no.NoMemory) = Unit {0}
+Transforms c p plan events (Err _) = ⊥
+
+-- a cause with the status 0 has this text for `out`, and none for `err`
+pub record IsToPut (words : List (List ℕ)) (files : LoadPort) (asks : AskPort) (text : List ℕ) : Type 0 where
+  pub cause : Cause
+  pub arises : Arises words files asks cause
+  pub is_text : out_text cause ≡ text
+  pub is_status : status cause ≡ 0
+  pub silent : err_text cause ≡ []
+
+-- the making of the text of a command
+abbrev pub Makes : List (List ℕ) → LoadPort → AskPort → Command → Result (List ℕ) ServeNo → Type 0
+Makes words files asks c (Ok text) = IsToPut words files asks text
+Makes words files asks c (Err why) = Stops words files asks c why
 
 -- what serving a command answers: the status of a cause that puts nothing to `err` and whose text was put whole; a refusal, whose cause is there; that a put of
 -- such a text failed; or that memory ran out, while the text was put or before a cause was known

@@ -6,10 +6,11 @@ ghost use Rattle.ca_cmd.specs.Commands.{Cause, Stands, status};
 ghost use Rattle.ca_io.specs.Ports.{put_port, load_port, HasFailed};
 ghost use Rattle.ca_cmd.specs.Serving.{ask_port, Holds, Answers, IsCut, NoneFailed, Serves};
 
-use crate::check::serve_check;
 use crate::refusals::{ServeNo, close, out_of_memory, refuse};
 use crate::run::serve_run;
-use crate::sites::serve_sites;
+use crate::sites::sites_text;
+use crate::texts::put_made;
+use crate::traced::traced_text;
 use ca_commands::{CommandWords, WordsNo, command_words};
 use ca_io::{Files, Sink};
 use std::alloc::Global;
@@ -31,8 +32,10 @@ fn serve<F: Files, O: Sink>(
 {
     match words {
         CommandWords::Run(words) => serve_run(alloc, words, files, out),
-        CommandWords::Check(words) => serve_check(alloc, words, files, out),
-        CommandWords::Sites(words) => serve_sites(alloc, words, files, out),
+        CommandWords::Sites(words) => put_made(sites_text(alloc, words, files), out),
+        CommandWords::Check(_) | CommandWords::Project(_) | CommandWords::Lift(_) => {
+            put_made(traced_text(alloc, words, files), out)
+        }
     }
 }
 
@@ -43,13 +46,17 @@ fn serve<F: Files, O: Sink>(
 ///   `--plain`. `--events N`, `--patience N`, `--schedule LIST` and `--seed N` say how the runner goes.
 /// - `check FILE TRACE` tells whether the trace in TRACE is a run of the source in FILE, which is hardened as for `run`, and
 ///   with how many entries and which ending.
+/// - `project FILE TRACE` puts the text of the projection of such a trace: without its abandoned attempts and its saves it is a
+///   run of the source as it is.
+/// - `lift FILE TRACE` puts the text of the lifted list of a run of the source as it is: with each save of the plan before the
+///   next entry of its thread it is a run of the hardened source.
 /// - `sites FILE` puts the table of the places at which the source in FILE may fail, with `--depth N` and `--only LIST`.
 ///
 /// The status is 0 where the run finished, or another command did its work; 1 where a fault ended the run; 2 where the words
 /// are others, or a number of `--only` is no site's; 3 where the source is longer than 1,048,576 bytes, or has a fault as a
 /// text of tokens, as a program or of types; 4 where the run is in deadlock; 5 where it has reached a limit of the runner; 6
 /// where a file could not be loaded; 7 where a put failed; 8 where an allocation was refused; 9 where the trace is longer
-/// than 268,435,456 bytes, has a line without a reading, or an entry that is no step. After 2, 3, 6, 8 and 9 a text goes to
+/// than 268,435,456 bytes, has a line without a reading, an entry that is no step, or a fault entry that is lifted. After 2, 3, 6, 8 and 9 a text goes to
 /// `err`.
 pub fn command_alone<F: Files, O: Sink, E: Sink>(
     alloc: Global,
@@ -58,7 +65,7 @@ pub fn command_alone<F: Files, O: Sink, E: Sink>(
     out: &mut O,
     err: &mut E,
 ) -> u8
-    // a cause is there, this is its status, its names were asked for, and its texts were put whole
+    // a cause is there, this is its status, its names were asked for, its texts were put whole, and hardening has added nothing
     ensures answered { result ≢ 7 → result ≢ 8 → (cause : Cause) × Answers
         (map string_bytes words.now)
         (load_port F.holds F.faults files.old files.new)

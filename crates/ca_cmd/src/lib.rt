@@ -1,14 +1,16 @@
 //! The one call that does what the program does.
 #![tactic(auto)]
 
-mod check;
 mod command;
 mod fault_texts;
 mod hardening;
+mod names;
 mod reading;
 mod refusals;
 mod run;
 mod sites;
+mod texts;
+mod traced;
 
 pub use command::command_alone;
 pub use refusals::out_of_memory;

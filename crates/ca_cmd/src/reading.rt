@@ -28,8 +28,8 @@ fn no_source(fault: SourceFault) -> ServeNo
     ServeNo::Refused(Refusal::Source(fault))
 }
 
-// A trace is refused.
-fn no_trace(fault: TraceFault) -> ServeNo
+/// A trace is refused.
+pub fn no_trace(fault: TraceFault) -> ServeNo
     ensures { result ≡ ServeNo.Refused (Refusal.Trace fault) }
 {
     ServeNo::Refused(Refusal::Trace(fault))

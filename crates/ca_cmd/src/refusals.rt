@@ -1,15 +1,16 @@
 // Refusals: their texts, put to one sink, and their statuses.
-ghost use Rattle.std.specs.Prelude.{◌≡◌, ◌⊎◌, ◌++◌, codes, get_or, []};
+ghost use Rattle.std.specs.Prelude.{◌≡◌, ◌⊎◌, ◌++◌, ◌+◌, codes};
 ghost use Rattle.std.specs.Fmt.{decimal};
 ghost use Rattle.ca_model.specs.Traces.{line_end};
 ghost use Rattle.ca_commands.specs.Options.{command};
 ghost use Rattle.ca_cmd.specs.FaultTexts.{fault_at};
-ghost use Rattle.ca_cmd.specs.Commands.{message, memory_text, source_of, traces_of, refusal_status, refusal_text, source_text, trace_text, Refused};
+ghost use Rattle.ca_cmd.specs.Commands.{message, memory_text, refusal_status, source_text, trace_text, Refused};
 ghost use Rattle.ca_io.specs.Ports.{put_port};
 ghost use Rattle.ca_cmd.specs.Serving.{Closes, Tells};
 ghost use Rattle.ca_cmd.specs.declared.refusals.Refusal.TheVariants as refused;
 
 use crate::fault_texts::{lex_words, read_words, type_words};
+use crate::names::{source_name, trace_name};
 use ca_commands::CommandWords;
 use ca_grammar::ReadFault;
 use ca_io::{PutNo, Sink};
@@ -43,6 +44,8 @@ pub enum TraceFault {
     NoLine { line: u32 },
     /// This entry, counted from 0, is the first that is no step.
     NoStep { index: u32 },
+    /// This entry, counted from 0, is a fault, and can't be lifted.
+    Fault { index: u32 },
 }
 
 /// Why a command is refused.
@@ -162,6 +165,15 @@ fn tell_part<E: Sink>(
     }
 }
 
+// Puts the text of a trace that is refused at an entry, which is told by its number from 1.
+fn tell_entry<E: Sink>(alloc: Global, err: &mut E, name: &str, index: u32, rest: &str) -> u8
+    ensures { Closes 9 (message (codes "conair: ") name.now (codes ": entry " ++ (decimal (index + 1) ++ rest.now))) result
+        (put_port E.written E.faults err.old err.new)
+        ⊎ Closes 8 memory_text result (put_port E.written E.faults err.old err.new) }
+{
+    tell_part(alloc, err, name, ": entry ", u64::from(index) + 1, rest)
+}
+
 // Puts the text of a trace that is refused.
 fn tell_trace<E: Sink>(alloc: Global, name: &str, fault: TraceFault, err: &mut E) -> u8
     ensures { Closes (refusal_status (refused.Trace fault)) (trace_text name.now fault) result
@@ -186,14 +198,8 @@ fn tell_trace<E: Sink>(alloc: Global, name: &str, fault: TraceFault, err: &mut E
             u64::from(line),
             " is not a trace line",
         ),
-        TraceFault::NoStep { index } => tell_part(
-            alloc,
-            err,
-            name,
-            ": entry ",
-            u64::from(index) + 1,
-            " is not a step",
-        ),
+        TraceFault::NoStep { index } => tell_entry(alloc, err, name, index, " is not a step"),
+        TraceFault::Fault { index } => tell_entry(alloc, err, name, index, " is a fault"),
     }
 }
 
@@ -206,27 +212,6 @@ fn tell_site<E: Sink>(alloc: Global, number: u32, err: &mut E) -> u8
     match format!(in alloc; "{number}") {
         Ok(digits) => tell(alloc, err, 2, "conair: no site s", digits.as_str(), ""),
         Err(AllocError) => out_of_memory(err),
-    }
-}
-
-// The file of the source that a command names.
-fn source_name(words: &CommandWords) -> &str
-    ensures { result.now ≡ source_of (command words.now) }
-{
-    match words {
-        CommandWords::Run(words) => words.name.as_str(),
-        CommandWords::Check(words) => words.name.as_str(),
-        CommandWords::Sites(words) => words.name.as_str(),
-    }
-}
-
-// The file of the trace that a command names; none is the empty word.
-fn trace_name(words: &CommandWords) -> &str
-    ensures { result.now ≡ get_or (traces_of (command words.now)) 0 [] }
-{
-    match words {
-        CommandWords::Check(words) => words.trace.as_str(),
-        CommandWords::Run(_) | CommandWords::Sites(_) => "",
     }
 }
 

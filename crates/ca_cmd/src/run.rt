@@ -21,6 +21,7 @@ use ca_machine::Machine;
 use ca_model::{Checked, Ending, Plan, typed_programs_are_well_formed};
 use ca_report::write_report;
 use ca_sched::Schedule;
+use ca_shapes::each_program_of_a_text_is_written;
 use ca_tree::NoMemory;
 use std::alloc::Global;
 
@@ -84,6 +85,7 @@ pub fn serve_run<F: Files, O: Sink>(
         (put_port O.written O.faults out.old out.new) (Run (run_options words.now)) result }
     ensures kept { F.holds files.new ≡ F.holds files.old }
 {
+    each_program_of_a_text_is_written();
     let checked = match open_source(alloc, words.name.as_str(), files) {
         Ok(checked) => checked,
         Err(no) => return Err(no),

@@ -1,10 +1,10 @@
 -- Pieces say one thing, since each value is spelled in one way; and words are pieces in one way.
 use Rattle.std.proofs.Common.{◌≡◌, ◌≤◌, ◌<◌, ◌^◌, ℕ, Bool, true, false, cond, List, [], ◌∷◌, map, Option, Some, None, refl, sym, ap, ◌∙◌, subst, arith, decimal}
-use Rattle.std.specs.Prelude.{All, codes}
+use Rattle.std.specs.Prelude.{All}
 use Rattle.std.proofs.lemmas.Fmt.{decimal_injective}
 use Rattle.std.proofs.lemmas.List.Elements.{All-head, All-tail}
 use Rattle.ca_commands.specs.declared.key.Key.TheVariants as key
-use Rattle.ca_commands.specs.Words.{Piece, names_of, plains_of, values_of, IsNumber, IsNumbers, IsLimit, IsDepth, IsOnly, IsEvents, IsPatience, IsSchedule, IsSeed, IsRead, PlanOptions, SaysPlan, SaysHardening, RunnerOptions, SaysRunner, RunOptions, SaysRun, CheckOptions, SaysCheck, SitesOptions, SaysSites, Command, Run, Check, Sites, word_of, Says, Means, Spell}
+use Rattle.ca_commands.specs.Words.{Piece, names_of, plains_of, values_of, IsNumber, IsNumbers, IsLimit, IsDepth, IsOnly, IsEvents, IsPatience, IsSchedule, IsSeed, IsRead, PlanOptions, SaysPlan, RunnerOptions, SaysRunner, RunOptions, SaysRun, CheckOptions, SaysCheck, SitesOptions, SaysSites, TraceOptions, SaysTrace, Command, Run, Check, Sites, Project, Lift, word_of, Says, Means, Spell}
 use Rattle.ca_commands.proofs.Spelling.{one_spelling}
 
 one_number : (least most : ℕ) → most < 2 ^ 64 → (text : List ℕ) (m n : ℕ) → IsNumber least most text m → IsNumber least most text n → m ≡ n
@@ -103,17 +103,40 @@ sites_from o p name plan = λ i. record { name = name i; plan = plan i }
 one_sites : (ps : List Piece) (o p : SitesOptions) → SaysSites ps o → SaysSites ps p → o ≡ p
 one_sites ps o p a b = sites_from o p (one_name (names_of ps) o.name p.name a.one_name b.one_name) (one_plan ps o.plan p.plan a.plan b.plan)
 
+trace_from : (o p : TraceOptions) → o.name ≡ p.name → o.trace ≡ p.trace → o.plan ≡ p.plan → o ≡ p
+trace_from o p name trace plan = λ i. record { name = name i; trace = trace i; plan = plan i }
+
+one_trace : (ps : List Piece) (o p : TraceOptions) → SaysTrace ps o → SaysTrace ps p → o ≡ p
+one_trace ps o p a b =
+    trace_from o p (first_name (names_of ps) o.name o.trace p.name p.trace a.two_names b.two_names) (second_name (names_of ps) o.name o.trace p.name p.trace a.two_names b.two_names) (one_plan ps o.plan p.plan a.plan b.plan)
+
 -- commands with one word
 one_command : (ps : List Piece) (c d : Command) → word_of c ≡ word_of d → Says ps c → Says ps d → c ≡ d
 one_command ps (Run o) (Run p) word a b = ap (λ (x : RunOptions). Run x) (one_run ps o p a b)
 one_command ps (Run o) (Check p) word a b = absurd cc
 one_command ps (Run o) (Sites p) word a b = absurd cc
+one_command ps (Run o) (Project p) word a b = absurd cc
+one_command ps (Run o) (Lift p) word a b = absurd cc
 one_command ps (Check o) (Run p) word a b = absurd cc
 one_command ps (Check o) (Check p) word a b = ap (λ (x : CheckOptions). Check x) (one_check ps o p a b)
 one_command ps (Check o) (Sites p) word a b = absurd cc
+one_command ps (Check o) (Project p) word a b = absurd cc
+one_command ps (Check o) (Lift p) word a b = absurd cc
 one_command ps (Sites o) (Run p) word a b = absurd cc
 one_command ps (Sites o) (Check p) word a b = absurd cc
 one_command ps (Sites o) (Sites p) word a b = ap (λ (x : SitesOptions). Sites x) (one_sites ps o p a b)
+one_command ps (Sites o) (Project p) word a b = absurd cc
+one_command ps (Sites o) (Lift p) word a b = absurd cc
+one_command ps (Project o) (Run p) word a b = absurd cc
+one_command ps (Project o) (Check p) word a b = absurd cc
+one_command ps (Project o) (Sites p) word a b = absurd cc
+one_command ps (Project o) (Project p) word a b = ap (λ (x : TraceOptions). Project x) (one_trace ps o p a b)
+one_command ps (Project o) (Lift p) word a b = absurd cc
+one_command ps (Lift o) (Run p) word a b = absurd cc
+one_command ps (Lift o) (Check p) word a b = absurd cc
+one_command ps (Lift o) (Sites p) word a b = absurd cc
+one_command ps (Lift o) (Project p) word a b = absurd cc
+one_command ps (Lift o) (Lift p) word a b = ap (λ (x : TraceOptions). Lift x) (one_trace ps o p a b)
 
 -- words that begin with one word and say two things have one list of pieces
 pub same_pieces : (words behind : List (List ℕ)) (w : List ℕ) (ps : List Piece) → words ≡ w ∷ behind → Spell ps behind → (c : Command) (m : Means words c) → (word_of c ≡ w) × (m.pieces ≡ ps)

@@ -12,7 +12,7 @@ use Rattle.ca_commands.specs.declared.key.Key.TheVariants as key
 use Rattle.ca_commands.specs.declared.pieces.Mode.{Mode}
 use Rattle.ca_commands.specs.declared.pieces.Mode.TheVariants as mode
 use Rattle.ca_commands.specs.Words.{spelling, Piece, Name, Plain, Valued, IsBare, Spell, ends, name, plain, apart, joined, names}
-use Rattle.ca_commands.specs.Gathering.{Gathered, gathered_as, start, in_mode, with_piece, if_so, key_of, is_equals, with_option, is_bare, with_word, by_mode, taken, gathered, IsDone}
+use Rattle.ca_commands.specs.Gathering.{Gathered, gathered_as, start, in_mode, with_piece, if_so, key_of, is_equals, with_option, is_bare, with_word, gathered, IsDone}
 use Rattle.ca_commands.proofs.Equals.{round_equals}
 
 -- what the words that are left do, after one piece

@@ -1,8 +1,9 @@
 -- The word of a command says which it is.
-use Rattle.std.proofs.Common.{◌≡◌, ℕ, List, ◌∷◌, refl, sym, ap, subst, ◌∙◌, get_or, arith}
+use Rattle.std.proofs.Common.{◌≡◌, ℕ, List, ◌∷◌, cond, refl, sym, ap, subst, ◌∙◌, get_or}
+use Rattle.std.specs.Prelude.{◌==◌}
 use Rattle.ca_commands.specs.declared.words.Verb.{Verb}
 use Rattle.ca_commands.specs.declared.words.Verb.TheVariants as verb
-use Rattle.ca_commands.specs.Words.{Piece, Spell, Command, Run, Check, Sites, word_of, Says, Means}
+use Rattle.ca_commands.specs.Words.{Piece, Spell, Command, Run, Check, Sites, Project, Lift, word_of, Says, Means}
 use Rattle.ca_commands.specs.Options.{verb_text, verb_of}
 use Rattle.ca_commands.proofs.OneMeaning.{same_pieces}
 
@@ -10,6 +11,8 @@ pub word_is : (c : Command) → word_of c ≡ verb_text (verb_of c)
 word_is (Run o) = refl
 word_is (Check o) = refl
 word_is (Sites o) = refl
+word_is (Project o) = refl
+word_is (Lift o) = refl
 
 -- a word that is none of them begins no command
 pub no_verb : (words behind : List (List ℕ)) (w : List ℕ) → words ≡ w ∷ behind → ((v : Verb) → w ≡ verb_text v → ⊥) → (c : Command) → Means words c → ⊥
@@ -18,16 +21,19 @@ no_verb words behind w is never c m =
     let word : word_of c ≡ w = cc in
     never (verb_of c) (sym word ∙ word_is c)
 
+-- which it is, by its first letter
+abbrev verb_at : ℕ → Verb
+verb_at c = cond (c == 114) verb.Run (cond (c == 99) verb.Check (cond (c == 115) verb.Sites (cond (c == 112) verb.Project verb.Lift)))
+
+found : (v : Verb) → verb_at (get_or (verb_text v) 0 0) ≡ v
+found verb.Run = refl
+found verb.Check = refl
+found verb.Sites = refl
+found verb.Project = refl
+found verb.Lift = refl
+
 one_verb : (a b : Verb) → verb_text a ≡ verb_text b → a ≡ b
-one_verb verb.Run verb.Run is = refl
-one_verb verb.Run verb.Check is = absurd cc
-one_verb verb.Run verb.Sites is = absurd cc
-one_verb verb.Check verb.Run is = absurd cc
-one_verb verb.Check verb.Check is = refl
-one_verb verb.Check verb.Sites is = let first : 99 ≡ 115 = ap (λ t. get_or t 0 0) is in absurd (omega (arith, first))
-one_verb verb.Sites verb.Run is = absurd cc
-one_verb verb.Sites verb.Check is = let first : 115 ≡ 99 = ap (λ t. get_or t 0 0) is in absurd (omega (arith, first))
-one_verb verb.Sites verb.Sites is = refl
+one_verb a b is = sym (found a) ∙ (ap (λ t. verb_at (get_or t 0 0)) is ∙ found b)
 
 -- what the pieces behind the word of a command don't say, the words don't mean
 pub unsaid_means : (words behind : List (List ℕ)) (v : Verb) (ps : List Piece) → words ≡ verb_text v ∷ behind → Spell ps behind → ((c : Command) → verb_of c ≡ v → Says ps c → ⊥) → (c : Command) → Means words c → ⊥

@@ -1,5 +1,5 @@
 -- What the words of a command mean: its names, its flag, and options with values.
-use Rattle.std.specs.Prelude.{◌≡◌, ◌≢◌, ◌≤◌, ◌==◌, ◌⊎◌, ◌+◌, ℕ, Bool, true, false, cond, List, [], ◌∷◌, ◌++◌, map, length, All, Option, Some, None, codes}
+use Rattle.std.specs.Prelude.{◌≡◌, ◌≢◌, ◌≤◌, ◌==◌, ◌⊎◌, ◌+◌, ℕ, Bool, false, cond, List, [], ◌∷◌, ◌++◌, map, length, All, Option, Some, None, codes}
 use Rattle.std.specs.List.{slice_split}
 use Rattle.std.specs.Str.{bytes_eq}
 use Rattle.std.specs.Fmt.{decimal}
@@ -182,21 +182,39 @@ pub record SaysSites (ps : List Piece) (o : SitesOptions) : Type 0 where
   pub plan : SaysPlan ps o.plan
   pub absent : AreAbsent (key.Limit ∷ runner_keys) ps
 
+-- what `project` and `lift` are asked to do
+pub record TraceOptions : Type 0 where
+  pub name : List ℕ
+  pub trace : List ℕ
+  pub plan : PlanOptions
+
+pub record SaysTrace (ps : List Piece) (o : TraceOptions) : Type 0 where
+  pub two_names : names_of ps ≡ o.name ∷ o.trace ∷ []
+  pub no_flag : plains_of ps ≡ 0
+  pub plan : SaysPlan ps o.plan
+  pub absent : AreAbsent runner_keys ps
+
 -- a command with what it is asked to do
 pub data Command : Type 0 where
   Run : (o : RunOptions) → Command
   Check : (o : CheckOptions) → Command
   Sites : (o : SitesOptions) → Command
+  Project : (o : TraceOptions) → Command
+  Lift : (o : TraceOptions) → Command
 
 abbrev pub word_of : Command → List ℕ
 word_of (Run o) = codes "run"
 word_of (Check o) = codes "check"
 word_of (Sites o) = codes "sites"
+word_of (Project o) = codes "project"
+word_of (Lift o) = codes "lift"
 
 abbrev pub Says : List Piece → Command → Type 0
 Says ps (Run o) = SaysRun ps o
 Says ps (Check o) = SaysCheck ps o
 Says ps (Sites o) = SaysSites ps o
+Says ps (Project o) = SaysTrace ps o
+Says ps (Lift o) = SaysTrace ps o
 
 -- the words are this command
 pub record Means (words : List (List ℕ)) (c : Command) : Type 0 where

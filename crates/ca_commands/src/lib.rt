@@ -1,4 +1,4 @@
-//! What the words of the commands mean: `run`, `check` and `sites`, with all their options.
+//! What the words of the commands mean: `run`, `check`, `sites`, `project` and `lift`, with all their options.
 #![tactic(auto)]
 
 mod key;
@@ -11,7 +11,8 @@ mod words;
 pub use key::Key;
 pub use laws::words_have_one_meaning;
 pub use words::{
-    CheckWords, CommandWords, PlanWords, RunWords, RunnerWords, SitesWords, WordsNo, command_words,
+    CheckWords, CommandWords, PlanWords, RunWords, RunnerWords, SitesWords, TraceWords, WordsNo,
+    command_words,
 };
 
 #[cfg(test)]

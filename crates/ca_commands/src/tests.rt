@@ -1,5 +1,5 @@
 // Words that are commands, and words that are refused.
-use super::{CommandWords, PlanWords, RunnerWords, WordsNo, command_words};
+use super::{CommandWords, PlanWords, RunnerWords, TraceWords, WordsNo, command_words};
 use ca_tree::Listed;
 use std::alloc::Global;
 use std::process::Abort;
@@ -237,7 +237,48 @@ fn sites_take_a_depth_and_numbers(rt: HostRuntime) -> Result<(), Fail> {
     Ok(())
 }
 
-const REFUSED: [&[&str]; 68] = [
+fn trace_is(rt: &impl Abort, words: &TraceWords, wanted: Wanted<'_>) {
+    assert_eq!(rt; words.name.as_str(), wanted.name);
+    assert_eq!(rt; words.trace.as_str(), "t.txt");
+    plan_is(rt, &words.plan, wanted);
+}
+
+#[test]
+fn projections_and_lifts_name_a_source_and_a_trace(rt: HostRuntime) -> Result<(), Fail> {
+    let alloc = rt.alloc();
+    let all = Wanted {
+        limit: Some(7),
+        depth: Some(0),
+        only: Some(&[3, 1]),
+        ..NOTHING
+    };
+    let found = read(
+        alloc,
+        &[
+            "project",
+            "a.c",
+            "--depth=0",
+            "t.txt",
+            "--limit",
+            "7",
+            "--only=3,1",
+        ],
+    )?;
+    match &found {
+        Ok(CommandWords::Project(words)) => trace_is(&rt, words, all),
+        Ok(_) => assert!(&rt; false),
+        Err(_) => assert!(&rt; false),
+    }
+    let found = read(alloc, &["lift", "--", "a.c", "t.txt"])?;
+    match &found {
+        Ok(CommandWords::Lift(words)) => trace_is(&rt, words, NOTHING),
+        Ok(_) => assert!(&rt; false),
+        Err(_) => assert!(&rt; false),
+    }
+    Ok(())
+}
+
+const REFUSED: [&[&str]; 76] = [
     &[],
     &["run"],
     &["a.c"],
@@ -306,6 +347,14 @@ const REFUSED: [&[&str]; 68] = [
     &["sites", "--plain", "a.c"],
     &["sites", "--limit", "1", "a.c"],
     &["sites", "--seed", "1", "a.c"],
+    &["project", "a.c"],
+    &["project", "a.c", "t.txt", "u.txt"],
+    &["project", "--plain", "a.c", "t.txt"],
+    &["project", "--limit", "10001", "a.c", "t.txt"],
+    &["lift"],
+    &["lift", "a.c", "t.txt", "--plain"],
+    &["lift", "a.c", "t.txt", "--events=1"],
+    &["lift", "a.c", "-", "--depth", "1"],
 ];
 
 #[test]

@@ -1,8 +1,8 @@
 // The words of commands.
 ghost use Rattle.std.specs.Prelude.{◌≡◌, ◌↔◌, Bool, true, false, List, map, string_bytes, IfOk, IfSome, IfNone, IsErrOf, ◌∷◌, [], ℕ};
 ghost use Rattle.ca_commands.specs.declared.words.Verb.{Verb as A_verb};
-ghost use Rattle.ca_commands.specs.Words.{PlanOptions, RunOptions, CheckOptions, SitesOptions, SaysPlan, SaysHardening, RunnerOptions, SaysRunner, SaysRun, SaysCheck, SaysSites, Says, Command as A_command, Means, unsaid, names_of, plains_of};
-ghost use Rattle.ca_commands.specs.Options.{plan_options, runner_options, run_options, check_options, sites_options, command, verb_text, verb_of};
+ghost use Rattle.ca_commands.specs.Words.{PlanOptions, RunOptions, CheckOptions, SitesOptions, SaysPlan, SaysHardening, RunnerOptions, SaysRunner, SaysRun, SaysCheck, SaysSites, TraceOptions, SaysTrace, AreAbsent, Says, Command as A_command, Means, unsaid, names_of, plains_of};
+ghost use Rattle.ca_commands.specs.Options.{plan_options, runner_options, run_options, check_options, sites_options, trace_options, command, verb_text, verb_of};
 
 use crate::key::Key;
 use crate::options::{Twice, are_absent, is_plain, name_at, number_of, numbers_of};
@@ -69,12 +69,25 @@ pub struct SitesWords {
     pub plan: PlanWords,
 }
 
+/// What `project` and `lift` are asked to do.
+#[derive(Drop)]
+pub struct TraceWords {
+    /// The file of the source.
+    pub name: String,
+    /// The file of the trace.
+    pub trace: String,
+    /// How the source is hardened.
+    pub plan: PlanWords,
+}
+
 /// A command with what it is asked to do.
 #[derive(Drop)]
 pub enum CommandWords {
     Run(RunWords),
     Check(CheckWords),
     Sites(SitesWords),
+    Project(TraceWords),
+    Lift(TraceWords),
 }
 
 /// Why words are no command.
@@ -258,6 +271,22 @@ fn has_plain(pieces: &[Piece<'_>]) -> bool
     }
 }
 
+// How the source is hardened, where `--plain` doesn't stand there, nor any of some options.
+fn plan_alone(alloc: Global, pieces: &[Piece<'_>], others: &[Key]) -> Result<PlanWords, WordsNo>
+    ensures found { IfOk result (λ w. SaysPlan pieces.now (plan_options w)) }
+    ensures alone { IfOk result (λ w. (plains_of pieces.now ≡ 0) × AreAbsent others.now pieces.now) }
+    ensures misworded { IsErrOf result WordsNo.Misworded → (o : PlanOptions) → SaysPlan pieces.now o → plains_of pieces.now ≡ 0 → AreAbsent others.now pieces.now → ⊥ }
+{
+    if has_plain(pieces) || !are_absent(pieces, others) {
+        return Err(WordsNo::Misworded);
+    }
+    match plan_words(alloc, pieces) {
+        Ok(plan) => Ok(plan),
+        Err(WordsNo::Misworded) => Err(WordsNo::Misworded),
+        Err(WordsNo::NoMemory) => Err(WordsNo::NoMemory),
+    }
+}
+
 const BEYOND_SITES: [Key; 5] = [
     Key::Limit,
     Key::Events,
@@ -273,10 +302,7 @@ fn sites_words(alloc: Global, pieces: &[Piece<'_>]) -> Result<SitesWords, WordsN
     let Some(word) = one_name(pieces) else {
         return Err(WordsNo::Misworded);
     };
-    if has_plain(pieces) || !are_absent(pieces, &BEYOND_SITES) {
-        return Err(WordsNo::Misworded);
-    }
-    let plan = match plan_words(alloc, pieces) {
+    let plan = match plan_alone(alloc, pieces, &BEYOND_SITES) {
         Ok(plan) => plan,
         Err(WordsNo::Misworded) => return Err(WordsNo::Misworded),
         Err(WordsNo::NoMemory) => return Err(WordsNo::NoMemory),
@@ -287,12 +313,35 @@ fn sites_words(alloc: Global, pieces: &[Piece<'_>]) -> Result<SitesWords, WordsN
     Ok(SitesWords { name, plan })
 }
 
+fn trace_words(alloc: Global, pieces: &[Piece<'_>]) -> Result<TraceWords, WordsNo>
+    ensures found { IfOk result (λ w. SaysTrace pieces.now (trace_options w)) }
+    ensures misworded { IsErrOf result WordsNo.Misworded → (o : TraceOptions) → SaysTrace pieces.now o → ⊥ }
+{
+    let Some((first, second)) = two_names(pieces) else {
+        return Err(WordsNo::Misworded);
+    };
+    let plan = match plan_alone(alloc, pieces, &RUNNER_KEYS) {
+        Ok(plan) => plan,
+        Err(WordsNo::Misworded) => return Err(WordsNo::Misworded),
+        Err(WordsNo::NoMemory) => return Err(WordsNo::NoMemory),
+    };
+    let Ok(name) = String::from_str(alloc, first) else {
+        return Err(WordsNo::NoMemory);
+    };
+    let Ok(trace) = String::from_str(alloc, second) else {
+        return Err(WordsNo::NoMemory);
+    };
+    Ok(TraceWords { name, trace, plan })
+}
+
 // Which command it is.
 #[derive(Clone, Copy, Debug, PartialEq, Eq)]
 enum Verb {
     Run,
     Check,
     Sites,
+    Project,
+    Lift,
 }
 
 fn verb_named(word: &str) -> Option<Verb>
@@ -305,6 +354,10 @@ fn verb_named(word: &str) -> Option<Verb>
         Some(Verb::Check)
     } else if word == "sites" {
         Some(Verb::Sites)
+    } else if word == "project" {
+        Some(Verb::Project)
+    } else if word == "lift" {
+        Some(Verb::Lift)
     } else {
         None
     }
@@ -319,6 +372,8 @@ fn asked(alloc: Global, verb: Verb, pieces: &[Piece<'_>]) -> Result<CommandWords
         Verb::Run => Ok(CommandWords::Run(run_words(alloc, pieces)?)),
         Verb::Check => Ok(CommandWords::Check(check_words(alloc, pieces)?)),
         Verb::Sites => Ok(CommandWords::Sites(sites_words(alloc, pieces)?)),
+        Verb::Project => Ok(CommandWords::Project(trace_words(alloc, pieces)?)),
+        Verb::Lift => Ok(CommandWords::Lift(trace_words(alloc, pieces)?)),
     }
 }
 
@@ -331,13 +386,14 @@ fn first_word(words: &[String]) -> Option<(&str, &[String])>
     Some((first.as_str(), behind))
 }
 
-/// The command that words are: `run FILE`, `check FILE TRACE` or `sites FILE`, with options of the command, each at most
-/// once and in any place before a word `--`, behind which all words are names. A value stands in the next word or behind
-/// `=`. Numbers are decimal digits without a leading zero, lists numbers with commas between them.
+/// The command that words are: `run FILE`, `check FILE TRACE`, `sites FILE`, `project FILE TRACE` or `lift FILE TRACE`, with
+/// options of the command, each at most once and in any place before a word `--`, behind which all words are names. A value
+/// stands in the next word or behind `=`. Numbers are decimal digits without a leading zero, lists numbers with commas
+/// between them.
 ///
 /// `run` takes `--plain`, `--limit`, `--depth`, `--only`, `--events`, `--patience`, `--schedule` and `--seed`; `check` the
-/// first four; `sites` takes `--depth` and `--only`. `--plain` stands with none of the three behind it, and `--schedule`
-/// not with `--seed`.
+/// first four; `project` and `lift` take `--limit`, `--depth` and `--only`; `sites` takes `--depth` and `--only`. `--plain`
+/// stands with none of the three behind it, and `--schedule` not with `--seed`.
 pub fn command_words(alloc: Global, words: &[String]) -> Result<CommandWords, WordsNo>
     ensures found { IfOk result (λ w. Means (map string_bytes words.now) (command w)) }
     ensures misworded { IsErrOf result WordsNo.Misworded → (c : A_command) → Means (map string_bytes words.now) c → ⊥ }

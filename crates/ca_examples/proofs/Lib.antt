@@ -1,14 +1,1 @@
-pub mod ByWant
-pub mod WatchRuns
-pub mod WatchPlan
-pub mod WatchRunner
-pub mod WatchFails
 pub mod LoopPaths
-pub mod Moves
-pub mod LockPaths
-pub mod SelfLock
-pub mod SelfLockRunner
-pub mod SelfLockPlan
-pub mod ThroughCallerPaths
-pub mod ThroughCallerPlan
-pub mod Formed

@@ -1,19 +1,22 @@
 -- Small cases of picks, printed text, activations and waiting.
-use Rattle.std.specs.Prelude.{◌≡◌, pos, neg_ℤ, [], ◌∷◌, ◌++◌, Some}
+use Rattle.std.specs.Prelude.{◌≡◌, pos, neg_ℤ, List, [], ◌∷◌, ◌++◌, Some}
 use Rattle.std.specs.Fmt.{signed_decimal}
 use Rattle.rand_pcg.specs.Lcg.{Lcg, started, increment_of}
 use Rattle.rand_pcg.specs.Pcg.{pcg32, multiplier_64}
 use Rattle.ca_model.specs.declared.values.Value.TheVariants as v
+use Rattle.ca_model.specs.declared.values.Event.{Event}
 use Rattle.ca_model.specs.declared.values.EventAct.TheVariants as event
 use Rattle.ca_model.specs.Printed.{written}
 use Rattle.ca_model.specs.declared.values.Given.{Given}
 use Rattle.ca_model.specs.declared.values.Given.TheVariants as given
 use Rattle.ca_model.specs.Schedules.{Listed_numbers, Words, pick, by_seed}
 use Rattle.ca_model.specs.Hardened.{latest_first}
+use Rattle.ca_model.specs.Machine.{by}
 use Rattle.ca_model.specs.Codes.{code_of}
 use Rattle.ca_model.specs.Activations.{activations, tries_in}
 use Rattle.ca_model.specs.Runner.{since_last, HasWaited}
-use Rattle.ca_examples.specs.Watch.{program, plan, hardened_list}
+use Rattle.ca_model.specs.SourceRuns.{no_plan}
+use Rattle.ca_examples.specs.LoopPoints.{program}
 
 abbrev pub a_mutex : Given
 a_mutex = given.Mutex (record { 0 = 0 })
@@ -44,12 +47,15 @@ TwoActivations =
     × (tries_in (record { 0 = 1 }) (event.Retry (record { 0 = 1 }) [] ∷ event.Turn ∷ []) ≡ 1)
 
 -- two entries after the last one of thread 1
+abbrev pub entries : List Event
+entries = by 0 (event.Create 1) ∷ by 1 event.End ∷ by 0 (event.Join 1) ∷ by 0 event.End ∷ []
+
 abbrev pub TwoSince : Type 0
-TwoSince = since_last 0 1 hardened_list ≡ 2
+TwoSince = since_last 0 1 entries ≡ 2
 
 -- so a thread has waited out after two entries, and not yet after three
 abbrev pub WaitsOut : Type 0
-WaitsOut = HasWaited (code_of program plan) 0 2 hardened_list 1 × (HasWaited (code_of program plan) 0 3 hardened_list 1 → ⊥)
+WaitsOut = HasWaited (code_of program no_plan) 0 2 entries 1 × (HasWaited (code_of program no_plan) 0 3 entries 1 → ⊥)
 
 -- the generator of the seed 42: 42 and the increment 1, and one step (O'Neill, pcg32_srandom with the stream 0); and its first word
 abbrev pub OfASeed : Type 0

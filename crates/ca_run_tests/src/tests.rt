@@ -1,6 +1,5 @@
 // Worked sources, each under words and with the status and the report that the definitions give.
-use ca_cmd::command_alone;
-use ca_io::{MemoryFiles, MemorySink};
+use crate::calls::{answer_to, call, failing, joined, lines};
 use ca_sources::{
     BOUNDED_BUFFER, EMPTY_MAIN, GIVEN_BLOCK, LOOP_POINTS, NULL_POINTER, OPPOSED_LOCKS, SELF_LOCK,
     THROUGH_CALLER, WATCH,
@@ -274,74 +273,6 @@ const RECOVERIES: [Recovery<'static>; 14] = [
     },
 ];
 
-// What a command answers, and what it puts to its two sinks.
-#[derive(Drop)]
-struct Answer {
-    status: u8,
-    out: Vec<u8>,
-    err: Vec<u8>,
-}
-
-// Words behind the words of a command.
-fn joined<'a>(
-    alloc: Global,
-    front: &[&'a str],
-    back: &[&'a str],
-) -> Result<Vec<&'a str>, AllocError> {
-    let mut words = Vec::new(alloc);
-    words.extend_from_slice(front)?;
-    words.extend_from_slice(back)?;
-    Ok(words)
-}
-
-// The files are the source `a.c` and the trace `t.txt`.
-fn call(
-    alloc: Global,
-    words: &[&str],
-    more: &[&str],
-    source: &[u8],
-    trace: &[u8],
-) -> Result<Answer, Fail> {
-    failing(
-        alloc,
-        joined(alloc, words, more)?.as_slice(),
-        source,
-        trace,
-        0,
-        0,
-    )
-}
-
-// The same where a load or a put to `out` fails, by its number from 1.
-fn failing(
-    alloc: Global,
-    words: &[&str],
-    source: &[u8],
-    trace: &[u8],
-    load: u32,
-    put: u32,
-) -> Result<Answer, Fail> {
-    let mut all = Vec::new(alloc);
-    for word in words {
-        all.push(String::from_str(alloc, word)?)?;
-    }
-    let mut files = MemoryFiles::new(alloc, vec![in alloc; load]?)?;
-    files.add("a.c", source)?;
-    files.add("t.txt", trace)?;
-    let mut out = MemorySink::new(alloc, vec![in alloc; put]?)?;
-    let mut err = MemorySink::new(alloc, Vec::new(alloc))?;
-    let status = command_alone(alloc, &all, &mut files, &mut out, &mut err);
-    Ok(Answer {
-        status,
-        out: out.bytes().to_vec(alloc)?,
-        err: err.bytes().to_vec(alloc)?,
-    })
-}
-
-fn answer_to(alloc: Global, words: &[&str], source: &[u8]) -> Result<Answer, Fail> {
-    call(alloc, &["run", "a.c"], words, source, b"")
-}
-
 fn gives(rt: &impl Abort, alloc: Global, row: Row<'_>) -> Result<(), Fail> {
     let answer = answer_to(alloc, row.words, row.source)?;
     assert_eq!(rt; answer.out.as_slice(), row.report.as_bytes());
@@ -559,22 +490,6 @@ fn a_file_may_fail(rt: HostRuntime) -> Result<(), Fail> {
         assert_eq!(&rt; found.out.len(), 0);
     }
     Ok(())
-}
-
-// The first lines of a text.
-fn lines(alloc: Global, text: &[u8], count: u32) -> Result<Vec<u8>, AllocError> {
-    let mut front = Vec::new(alloc);
-    let mut left = count;
-    for byte in text {
-        if left == 0 {
-            return Ok(front);
-        }
-        front.push(*byte)?;
-        if *byte == b'\n' {
-            left = left.saturating_sub(1);
-        }
-    }
-    Ok(front)
 }
 
 #[test]

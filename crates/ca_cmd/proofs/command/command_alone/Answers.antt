@@ -12,21 +12,21 @@ pub returns-in-Err-Misworded-clause-answered : goal.returns-in-Err-Misworded-cla
 returns-in-Err-Misworded-clause-answered g c =
     let words : List (List ℕ) = map string_bytes c.args.words.now in
     let files : LoadPort = load_port g.F.Files.holds g.F.Files.faults c.args.files.now c.args.files.now in
-    let ends = ends_told words files _ _ _ c.close.result Misworded (record { stands = c.in-Err-Misworded.ensures.misworded (ap Err c.in-Err-Misworded.field-0-is); asked = asked_nothing g.F.Files.asked c.args.files.now c.args.files.now refl }) (wrote_nothing g.O.Sink.written g.O.Sink.faults c.args.out.now c.args.out.now refl) (inl c.close.ensures) in
+    let ends = ends_told words files _ _ _ c.close.result Misworded (record { stands = c.in-Err-Misworded.ensures.misworded (ap Err c.in-Err-Misworded.field-0-is); asked = asked_nothing g.F.Files.asked c.args.files.now c.args.files.now refl; faithful = tt }) (wrote_nothing g.O.Sink.written g.O.Sink.faults c.args.out.now c.args.out.now refl) (inl c.close.ensures) in
     answered_at words _ _ _ _ c.close.result ends
 
 pub returns-in-Err-Misworded-clause-cut : goal.returns-in-Err-Misworded-clause-cut
 returns-in-Err-Misworded-clause-cut g c =
     let words : List (List ℕ) = map string_bytes c.args.words.now in
     let files : LoadPort = load_port g.F.Files.holds g.F.Files.faults c.args.files.now c.args.files.now in
-    let ends = ends_told words files _ _ _ c.close.result Misworded (record { stands = c.in-Err-Misworded.ensures.misworded (ap Err c.in-Err-Misworded.field-0-is); asked = asked_nothing g.F.Files.asked c.args.files.now c.args.files.now refl }) (wrote_nothing g.O.Sink.written g.O.Sink.faults c.args.out.now c.args.out.now refl) (inl c.close.ensures) in
+    let ends = ends_told words files _ _ _ c.close.result Misworded (record { stands = c.in-Err-Misworded.ensures.misworded (ap Err c.in-Err-Misworded.field-0-is); asked = asked_nothing g.F.Files.asked c.args.files.now c.args.files.now refl; faithful = tt }) (wrote_nothing g.O.Sink.written g.O.Sink.faults c.args.out.now c.args.out.now refl) (inl c.close.ensures) in
     cut_at words _ _ _ _ c.close.result ends
 
 pub returns-in-Err-Misworded-clause-decided : goal.returns-in-Err-Misworded-clause-decided
 returns-in-Err-Misworded-clause-decided g c =
     let words : List (List ℕ) = map string_bytes c.args.words.now in
     let files : LoadPort = load_port g.F.Files.holds g.F.Files.faults c.args.files.now c.args.files.now in
-    let ends = ends_told words files _ _ _ c.close.result Misworded (record { stands = c.in-Err-Misworded.ensures.misworded (ap Err c.in-Err-Misworded.field-0-is); asked = asked_nothing g.F.Files.asked c.args.files.now c.args.files.now refl }) (wrote_nothing g.O.Sink.written g.O.Sink.faults c.args.out.now c.args.out.now refl) (inl c.close.ensures) in
+    let ends = ends_told words files _ _ _ c.close.result Misworded (record { stands = c.in-Err-Misworded.ensures.misworded (ap Err c.in-Err-Misworded.field-0-is); asked = asked_nothing g.F.Files.asked c.args.files.now c.args.files.now refl; faithful = tt }) (wrote_nothing g.O.Sink.written g.O.Sink.faults c.args.out.now c.args.out.now refl) (inl c.close.ensures) in
     decided_at words _ _ _ _ c.close.result ends
 
 pub returns-in-Ok-serve-clause-answered : goal.returns-in-Ok-serve-clause-answered

@@ -7,4 +7,7 @@ pub returns-in-NoLine : goal.returns-in-NoLine
 returns-in-NoLine g c = rw c.in-NoLine.is (rw c.from.ensures at c.tell_part.ensures)
 
 pub returns-in-NoStep : goal.returns-in-NoStep
-returns-in-NoStep g c = rw c.in-NoStep.is (rw c.from-in-NoStep.ensures at c.tell_part-in-NoStep.ensures)
+returns-in-NoStep g c = rw c.in-NoStep.is c.tell_entry.ensures
+
+pub returns-in-Fault : goal.returns-in-Fault
+returns-in-Fault g c = rw c.in-Fault.is c.tell_entry-in-Fault.ensures

@@ -1,4 +1,4 @@
-use Rattle.std.proofs.Common.{◌≡◌, ◌+◌, ◌-◌, ◌≤◌, drop, slice_get}
+use Rattle.std.proofs.Common.{◌≡◌, ◌-◌, ◌≤◌, drop, slice_get}
 use Rattle.ca_commands.specs.Words.{names_of}
 use Rattle.ca_commands.proofs.options.name_at.Given as goal
 

@@ -1,4 +1,4 @@
-use Rattle.std.proofs.Common.{List, ℕ, Err, ap, map, string_bytes, refl, sym, subst, ◌∙◌, ◌≡◌, Some}
+use Rattle.std.proofs.Common.{Err, ap, map, string_bytes, sym, subst, ◌∙◌, ◌≡◌, Some}
 use Rattle.ca_commands.specs.Gathering.{Gathered, gathered_as, gathered, start, IsDone}
 use Rattle.ca_commands.proofs.Spelling.{no_spelling, unfinished, read_spells}
 use Rattle.ca_commands.proofs.pieces.pieces.Goals as goal
